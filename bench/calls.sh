@@ -1,11 +1,11 @@
 #!/bin/sh
-# Measures what a call of the static library takes for each symbol of a file, C++ or Rust, one a line, beside a call of libiberty and one of
-# LLVM, where these are installed (Debian's libiberty-dev, llvm-14-dev).
+# Measures a call of the static library for each symbol of a file, C++ or Rust, one symbol per line. Where libiberty and LLVM are installed
+# (Debian's libiberty-dev, llvm-14-dev), their calls are measured, too.
 #
 #   bench/calls.sh [-i] [-l LIBRARY] FILE
 #
-# The script prints nanoseconds of processor time; with -i it prints the instructions, counted by valgrind, without those that read the
-# file. LIBRARY is measured in the place of the proved library: for instance dist/libsymdemangle.a, which a C compiler made.
+# The script prints nanoseconds of processor time; with -i it prints the instructions that valgrind counts, without those that read the
+# file. LIBRARY is measured in place of the proved library, for instance dist/libsymdemangle.a, which a C compiler made.
 set -eu
 usage() {
     echo "usage: $0 [-i] [-l LIBRARY] FILE" >&2

@@ -9,9 +9,9 @@
 #   bench/inputs.sh inputs && bench/compare.sh -i crates/symfilt/out/symfilt inputs/*.txt
 #
 # With -w the other ways of showing symbols are run, too: the wide grammar, names without parameters, brief texts, and -p of the other
-# filters. Numbers of instructions don't depend on what else the machine does. They are those for LINES lines (5,000), taken at even
-# distances from the file, less those of a run over no input. Debian's binutils has c++filt, llvm has llvm-cxxfilt, and rustfilt and
-# valgrind are packages too.
+# filters. Numbers of instructions don't depend on what else the machine does. The table has the instructions for LINES lines (5,000), taken
+# from the file at even intervals, less the instructions of a run over no input. Debian's binutils has c++filt, llvm has llvm-cxxfilt, and
+# rustfilt and valgrind are packages too.
 set -euo pipefail
 
 usage() {

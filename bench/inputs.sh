@@ -12,9 +12,9 @@
 #   OUT/plain.txt       60 MB of text without symbols
 #   OUT/libraries       which libraries these were
 #
-# Symbols are those of the libraries' dynamic tables, and of the usual tables of archives. Without LIBRARY the script takes those of this
-# list that are installed: the C++ runtime, Rust's compiler and library, and Debian's libLLVM, libclang-cpp, Boost, ICU, protobuf, gRPC, Qt,
-# RocksDB, Poco. Where other versions are installed the files differ, and so do the numbers that are measured with them.
+# The symbols are those in the libraries' dynamic tables, and in the usual tables of archives. Without LIBRARY the script takes the
+# libraries of this list that are installed: the C++ runtime, Rust's compiler and library, and Debian's libLLVM, libclang-cpp, Boost, ICU,
+# protobuf, gRPC, Qt, RocksDB, Poco. With other versions of these the files differ, and so do the numbers that are measured with the files.
 set -euo pipefail
 [ $# -ge 1 ] || { echo "usage: $0 OUT [LIBRARY..]" >&2; exit 2; }
 export LC_ALL=C
@@ -51,8 +51,8 @@ rm "$out/all"
 grep -aE 'T[0-9]*_' "$out/cpp.txt" >"$out/templates.txt" || true
 awk 'length($0) >= 200 && length($0) < 400' "$out/cpp.txt" >"$out/long.txt"
 
-# the head of a sample, and frames: address, symbol with a distance, library; the lines of nm are read backwards, so that a library's path
-# comes before its symbols
+# the head of a sample, then its frames, each with an address, a symbol with a distance, and a library; the lines of nm are read backwards,
+# so that a library's path comes before its symbols
 tac "$out/nm.txt" | awk '
     /:$/ { path = substr($0, 1, length($0) - 1); next }
     NF == 3 {

@@ -1,5 +1,5 @@
 #!/bin/bash
-# Counts the instructions that symfilt takes over files, and prints the functions that take most of them.
+# Counts the instructions that symfilt takes for files, and prints the functions that take most of them.
 #
 #   bench/profile.sh SYMFILT FILE..
 #

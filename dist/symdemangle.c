@@ -2224,9 +2224,8 @@ static s_8_8 push_text_0f0(u8* a,u8* b,u8* c,u64 d,u8 e,u32 f,u8* g);
 static u8 add_following_166(u8* a,u8* b,u8* c,u64 d);
 static u8 end_segment_98e(u8* a,u8* b,u8* c,u8* d,u8* e);
 static void end_within_916(u8* a,u8* b,u8* c,u8* d,u8* e);
-static void append_d61(u8* a,u8* b,u8* c,u8 d,u8* e,u64 f,u8* g);
+static u8 rewrite_or_remove_fa2(u8* a,u8* b,u8 c,u8* d,u64 e,u64 f,u8* g);
 static void path_of_ea7(u8* a,u8* b,u64 c);
-static u8 rewrite_8ff(u8* a,u8* b,u64 c,u8* d);
 static void read_661(u8* a,u8* b,u64 c);
 static u64 inlines_size_fb0(u8* a,u64 b,u8* c,u64 d);
 static void change_at_a46(u8* a,u8* b,u64 c,u8* d,u64 e);
@@ -2239,14 +2238,17 @@ static COLD u8 grow_amortized_f8b(u8* a);
 static COLD u8 grow_amortized_03f(u8* a);
 static u64 without_defaults_014(u8* a,u8* b,u8* c,u64 d);
 static void turn_through_room_153(u8* a,u64 b,u64 c,u64 d);
+static s_8_8 append_text_8f3(u8* a,u8* b,u8* c,u64 d,u8* e);
 static s_8_8 append_parts_339(u8* a,u8* b,u8* c,u64 d,u8* e);
+static s_8_8 push_text_2e9(u8* a,u8* b,u8* c,u64 d,u8 e,u32 f,u8* g);
 static u8 end_segment_337(u8* a,u8* b,u8* c,u8* d,u8* e);
 static void end_within_4fe(u8* a,u8* b,u8* c,u8* d,u8* e);
 static s_8_8 append_parts_b79(u8* a,u8* b,u8* c,u64 d,u8* e);
 static u8 end_segment_cac(u8* a,u8* b,u8* c,u8* d,u8* e);
 static void end_within_3fd(u8* a,u8* b,u8* c,u8* d,u8* e);
-static void append_018(u8* a,u8* b,u8* c,u8 d,u8* e,u64 f,u8* g);
+static s_8_8 append_text_33c(u8* a,u8* b,u8* c,u64 d,u8* e);
 static s_8_8 append_parts_0b0(u8* a,u8* b,u8* c,u64 d,u8* e);
+static s_8_8 push_text_fb5(u8* a,u8* b,u8* c,u64 d,u8 e,u32 f,u8* g);
 static u8 end_segment_ba1(u8* a,u8* b,u8* c,u8* d,u8* e);
 static void filter_in_729(u8* a,u8* b,u32 c,u8* d,u64 e,u8* f,u64 g,u8* h);
 static void end_within_8c1(u8* a,u8* b,u8* c,u8* d,u8* e);
@@ -2257,15 +2259,17 @@ static s_8_8 append_parts_249(u8* a,u8* b,u8* c,u64 d,u8* e);
 static s_8_8 push_text_46b(u8* a,u8* b,u8* c,u64 d,u8 e,u32 f,u8* g);
 static u8 end_segment_98d(u8* a,u8* b,u8* c,u8* d,u8* e);
 static void end_within_682(u8* a,u8* b,u8* c,u8* d,u8* e);
-static void append_dd4(u8* a,u8* b,u8* c,u8 d,u8* e,u64 f,u8* g);
+static s_8_8 append_text_dab(u8* a,u8* b,u8* c,u64 d,u8* e);
 static s_8_8 append_parts_98e(u8* a,u8* b,u8* c,u64 d,u8* e);
+static s_8_8 push_text_d5a(u8* a,u8* b,u8* c,u64 d,u8 e,u32 f,u8* g);
 static u8 end_segment_b7a(u8* a,u8* b,u8* c,u8* d,u8* e);
 static void end_within_69d(u8* a,u8* b,u8* c,u8* d,u8* e);
 static s_8_8 append_parts_472(u8* a,u8* b,u8* c,u64 d,u8* e);
 static u8 end_segment_bdb(u8* a,u8* b,u8* c,u8* d,u8* e);
 static void end_within_b20(u8* a,u8* b,u8* c,u8* d,u8* e);
-static void append_a0b_2(u8* a,u8* b,u8* c,u8 d,u8* e,u64 f,u8* g);
+static s_8_8 append_text_bcc(u8* a,u8* b,u8* c,u64 d,u8* e);
 static s_8_8 append_parts_3bf(u8* a,u8* b,u8* c,u64 d,u8* e);
+static s_8_8 push_text_8d8(u8* a,u8* b,u8* c,u64 d,u8 e,u32 f,u8* g);
 static u8 end_segment_f08(u8* a,u8* b,u8* c,u8* d,u8* e);
 static void parse_fb3(u8* a,u8* b,u8 c,u32 d,u8* e,u64 f);
 static void stretches_as_7c3(u8* a,u8* b,u32 c,u8 d);
@@ -2398,13 +2402,17 @@ static void write_short_198(u8* a,u8* b,u64 c,u32 d,u8 e,u8* f,u64 g);
 static void or_type_0d4(u8* a,u8* b,u8* c,u8* d,u64 e,u8* f,u64 g,u8* h);
 static void append_after_words_c13(u8* a,u8* b,u64 c,u8* d);
 static void or_type_43d(u8* a,u8* b,u8* c,u8* d,u64 e,u8* f,u64 g,u8* h);
+static void symbol_with_ad4(u8* a,u8* b,u8* c,u8* d,u8 e,u32 f,u8* g,u64 h,u8* i,u64 j);
 static void or_type_a12(u8* a,u8* b,u8* c,u8* d,u64 e,u8* f,u64 g,u8* h);
+static void symbol_with_e80(u8* a,u8* b,u8* c,u8* d,u8 e,u32 f,u8* g,u64 h,u8* i,u64 j);
 static void or_type_9d2(u8* a,u8* b,u8* c,u8* d,u64 e,u8* f,u64 g,u8* h);
 static void symbol_with_be6(u8* a,u8* b,u8* c,u8* d,u8 e,u32 f,u8* g,u64 h,u8* i,u64 j);
 static void short_once_196(u8* a,u8* b,u8 c,u8* d,u64 e,u8* f,u64 g);
 static void or_type_81e(u8* a,u8* b,u8* c,u8* d,u64 e,u8* f,u64 g,u8* h);
 static void or_type_2d2(u8* a,u8* b,u8* c,u8* d,u64 e,u8* f,u64 g,u8* h);
+static void symbol_with_8c9(u8* a,u8* b,u8* c,u8* d,u8 e,u32 f,u8* g,u64 h,u8* i,u64 j);
 static void or_type_f0b(u8* a,u8* b,u8* c,u8* d,u64 e,u8* f,u64 g,u8* h);
+static void symbol_with_d8d(u8* a,u8* b,u8* c,u8* d,u8 e,u32 f,u8* g,u64 h,u8* i,u64 j);
 static void or_type_504(u8* a,u8* b,u8* c,u8* d,u64 e,u8* f,u64 g,u8* h);
 static void symdemangle_counts_of(u8* a,u64 b,u32 c,u8* d,u8* e);
 static void symdemangle_filter_of(u8* a,u64 b,u32 c,u32 d,u8* e,u64 f,u8* g,u8* h);
@@ -22741,11 +22749,11 @@ static void print_entries_7a0(u8* a,u8* b,u8* c,u8* d,u8* e,u8* f,u8 g)
 {
 u8 h[3],k[3],r[3],s[3],t[3],u[3],v[3],w[3];
 A16 u8 i[12],j[12],l[16],m[16],n[24],o[20],p[12],q[32];
-u64 x,C,E,F,H,J,U,V,W,X,Y,Z,ca,fa,ga,ha,ia,ka,la,ma,na,pa,sa,ta,xa,za,Da,Fa,Ha,Ja,Ma,Oa,Pa,Ra,Sa,Ta,Va,Xa,bb,hb,kb,nb,pb,rb,sb,ub,wb,zb,Ab,Bb,Cb,Hb,Ib,Jb,Kb,ac,jc,Cc,Fc,Ic,Nc,bd,fd,kd,td,vd,yd,Ad,Bd,Cd,Dd,Ed,Gd,Hd,Id,Kd,Ld,Md,Qd,Rd,Sd,Vd,Wd,Yd,Zd,be,ce,de,ee,ge;
-u8 y,O,R,aa,wa,ya,Ea,Ia,Qa,cb,db,ib,jb,qb,tb,yb,Ob,Qb,Rb,Vb,Wb,bc,cc,dc,gc,sc,vc,zc,Tc,id,ud,zd,Fd,Jd;
-u32 z,A,L,M,N,P,Q,S,T,da,ja,oa,qa,ra,va,Ba,Ca,La,Ya,Za,ab,eb,xb,Gb,Lb,Pb,Sb,Xb,Yb,Zb,ec,nc,Sc,Uc,Vc,Yc,Zc,ad,hd,jd,sd,xd;
-u8 *B,*D,*G,*I,*K,*ba,*ea,*ua,*Aa,*Ga,*Ka,*Na,*Ua,*Wa,*fb,*gb,*lb,*mb,*ob,*vb,*Mb,*Nb,*Tb,*Ub,*fc,*hc,*ic,*kc,*lc,*mc,*oc,*qc,*tc,*wc,*yc,*Ac,*Bc,*Dc,*Ec,*Gc,*Hc,*Jc,*Kc,*Lc,*Mc,*Oc,*Pc,*Qc,*Rc,*Wc,*Xc,*cd,*dd,*ed,*gd,*ld,*nd,*Nd,*Od,*Pd,*Td,*Ud,*Xd,*ae,*fe;
-s_64_64 Db,Eb,Fb;
+u64 x,C,E,F,H,J,U,V,W,X,Y,Z,ca,fa,ga,ha,ia,ka,la,ma,na,pa,sa,ta,xa,za,Da,Fa,Ha,Ja,Ma,Oa,Pa,Ra,Sa,Ta,Va,Xa,ib,lb,ob,qb,sb,tb,vb,xb,Ab,Bb,Cb,Db,Ib,Jb,Kb,Lb,ac,jc,Cc,Fc,Ic,Nc,bd,fd,kd,td,vd,yd,Ad,Bd,Cd,Dd,Ed,Gd,Hd,Id,Kd,Ld,Md,Qd,Rd,Sd,Vd,Wd,Yd,Zd,be,ce,de,ee,ge;
+u8 y,O,R,aa,wa,ya,Ea,Ia,Qa,bb,db,eb,jb,kb,rb,ub,zb,Ob,Qb,Rb,Vb,Wb,bc,cc,dc,gc,sc,vc,zc,Tc,id,ud,zd,Fd,Jd;
+u32 z,A,L,M,N,P,Q,S,T,da,ja,oa,qa,ra,va,Ba,Ca,La,Ya,Za,ab,cb,fb,yb,Hb,Pb,Sb,Xb,Yb,Zb,ec,nc,Sc,Uc,Vc,Yc,Zc,ad,hd,jd,sd,xd;
+u8 *B,*D,*G,*I,*K,*ba,*ea,*ua,*Aa,*Ga,*Ka,*Na,*Ua,*Wa,*gb,*hb,*mb,*nb,*pb,*wb,*Mb,*Nb,*Tb,*Ub,*fc,*hc,*ic,*kc,*lc,*mc,*oc,*qc,*tc,*wc,*yc,*Ac,*Bc,*Dc,*Ec,*Gc,*Hc,*Jc,*Kc,*Lc,*Mc,*Oc,*Pc,*Qc,*Rc,*Wc,*Xc,*cd,*dd,*ed,*gd,*ld,*nd,*Nd,*Od,*Pd,*Td,*Ud,*Xd,*ae,*fe;
+s_64_64 Eb,Fb,Gb;
 u16 pc,rc,uc,xc,md,od,pd,qd;
 if(r8(e+8)!=0)w8(e+8,0);
 if(r8(e+32)!=0)w8(e+32,0);
@@ -22978,111 +22986,106 @@ switch(D[-36]){
 case 0:Ya=q4(D-32);
 Za=q4(D-28);
 ab=q4(D-24);
-bb=q8(D-20);
-cb=D[-12];
-db=D[-8];
-eb=q4(D-4);
+bb=D[-20];
+cb=q4(D-16);
+db=D[-12];
+eb=D[-8];
+fb=q4(D-4);
 z12(p);
 z32(q);
 if(g){
 if(r8(e+80)<=Ya)goto L10;
-fb=rp(e+72)+(i64)((u64)Ya*12);
-if(fb[8]&1&&ab==0)goto L10;
-if((r4(fb+4)&((u32)1<<(Za&31)))==0)goto L10;}
+gb=rp(e+72)+(i64)((u64)Ya*12);
+if(gb[8]&1&&ab==0)goto L10;
+if((r4(gb+4)&((u32)1<<(Za&31)))==0)goto L10;}
 else{
 if(Za==0){
-gb=rp(b+24);
-hb=(u64)Ya*48;
-ib=*(gb+(i64)hb);
-if(ib!=12){
-jb=ib;
-kb=hb;
-lb=gb;
-goto L11;}
-switch(cb){
-case 0:case 2:goto L10;
-case 1:case 3:goto L12;
-default:NEVER;
-}}}
+hb=rp(b+24);
+ib=(u64)Ya*48;
+jb=*(hb+(i64)ib);
+if((u8)(jb-14)>=253)goto L10;
+kb=jb;
+lb=ib;
+mb=hb;
+goto L11;}}
 if(Za>1)goto L12;
-mb=rp(b+24);
-nb=(u64)Ya*48;
-jb=*(mb+(i64)nb);
-kb=nb;
-lb=mb;
-L11:if(jb==25){
-ob=lb+(i64)((u64)q4(lb+(i64)kb+4)*48);
-if(*ob==25){
-pb=(u64)q4(ob+4)*48;
-if(*(lb+(i64)pb)!=25)goto L12;
-qb=0;
-rb=pb;
-L13:sb=(u64)q4(lb+(i64)rb+4)*48;
-if(*(lb+(i64)sb)!=25)goto L12;
-if(qb)goto L10;
-qb=1;
-rb=sb;
+nb=rp(b+24);
+ob=(u64)Ya*48;
+kb=*(nb+(i64)ob);
+lb=ob;
+mb=nb;
+L11:if(kb==25){
+pb=mb+(i64)((u64)q4(mb+(i64)lb+4)*48);
+if(*pb==25){
+qb=(u64)q4(pb+4)*48;
+if(*(mb+(i64)qb)!=25)goto L12;
+rb=0;
+sb=qb;
+L13:tb=(u64)q4(mb+(i64)sb+4)*48;
+if(*(mb+(i64)tb)!=25)goto L12;
+if(rb)goto L10;
+rb=1;
+sb=tb;
 goto L13;}
-tb=0;
-ub=kb;
-L14:vb=lb+(i64)((u64)q4(lb+(i64)ub+4)*48);
-if(*vb==32){
-if(!(vb[1]&1||vb[2]&1)&&vb[3]&1){
-wb=(u64)q4(vb+4)*48;
-if(*(lb+(i64)wb)==25){
-if(tb)goto L10;
-tb=1;
-ub=wb;
+ub=0;
+vb=lb;
+L14:wb=mb+(i64)((u64)q4(mb+(i64)vb+4)*48);
+if(*wb==32){
+if(!(wb[1]&1||wb[2]&1)&&wb[3]&1){
+xb=(u64)q4(wb+4)*48;
+if(*(mb+(i64)xb)==25){
+if(ub)goto L10;
+ub=1;
+vb=xb;
 goto L14;}}}}
-L12:xb=r4(f);
-if(r4(f+4)!=xb){
-zb=r8(c+16);
-if(zb-F<8){
-Ab=umax64(F,8);
-if(Ab>(F^18446744073709551615u)){
-yb=4;
+L12:yb=r4(f);
+if(r4(f+4)!=yb){
+Ab=r8(c+16);
+if(Ab-F<8){
+Bb=umax64(F,8);
+if(Bb>(F^18446744073709551615u)){
+zb=4;
 goto L15;}
-Bb=Ab+F;
-if(Bb>=0x38e38e38e38e38fu){
-yb=4;
+Cb=Bb+F;
+if(Cb>=0x38e38e38e38e38fu){
+zb=4;
 goto L15;}
-Cb=Bb*36;
-if(zb==0){
-Db=port_rattle_alloc(Cb,4);
-if(!(u8)(Db.f0&1)){
-yb=4;
+Db=Cb*36;
+if(Ab==0){
+Eb=port_rattle_alloc(Db,4);
+if(!(u8)(Eb.f0&1)){
+zb=4;
 goto L15;}
-Eb=Db;}
+Fb=Eb;}
 else{
-Fb=port_rattle_realloc(G,E,Cb,4);
-if(!(u8)(Fb.f0&1)){
-yb=4;
+Gb=port_rattle_realloc(G,E,Db,4);
+if(!(u8)(Gb.f0&1)){
+zb=4;
 goto L15;}
-Eb=Fb;}
-wp(c,(u8*)Eb.f1);
-w8(c+16,Bb);
-Gb=r4(f);}
-else Gb=xb;
-Hb=r8(f+8)+1;
-w4(f,Gb+1);
-w8(f+8,Hb);
-Ib=r8(c+8);
-if(Ib==0)Jb=0;
+Fb=Gb;}
+wp(c,(u8*)Fb.f1);
+w8(c+16,Cb);
+Hb=r4(f);}
+else Hb=yb;
+Ib=r8(f+8)+1;
+w4(f,Hb+1);
+w8(f+8,Ib);
+Jb=r8(c+8);
+if(Jb==0)Kb=0;
 else{
-Kb=Ib-1;
-w8(c+8,Kb);
-Jb=Kb;}
-Lb=bb>>32;
+Lb=Jb-1;
+w8(c+8,Lb);
+Kb=Lb;}
 Mb=rp(b+24);
 Nb=Mb+(i64)((u64)Ya*48);
 Ob=*Nb==47;
 Pb=Ob?q4(Nb+4):Ya;
-Qb=db!=0;
+Qb=eb!=0;
 Rb=Qb||Ob;
-Sb=Qb?eb:(Ob?q4(Nb+8):0);
-w4(o,(u32)bb&255);
-w4(o+4,Lb);
-o[8]=cb;
+Sb=Qb?fb:(Ob?q4(Nb+8):0);
+w4(o,bb);
+w4(o+4,cb);
+o[8]=db;
 z3(o+9);
 w4(o+12,Rb);
 w4(o+16,Sb);
@@ -23114,24 +23117,24 @@ fc=Tb+(i64)Zb;
 if(!((ac&4294967295u)-Zb<10||*fc!=95)){
 gc=parts_equal_58b((u8*)t_35ad,10,fc,10);
 if(gc){
-hc=rp(c)+Jb*36;
+hc=rp(c)+Kb*36;
 *hc=3;
 hc[1]=0;
 x2(hc+2,35);
 z32(hc+4);
-w8(c+8,Jb+1);
+w8(c+8,Kb+1);
 goto L16;}}}
 if(Zb<ec){
-ic=rp(c)+Jb*36;
+ic=rp(c)+Kb*36;
 *ic=1;
 z3(ic+1);
 x4(ic+4,Zb);
 x4(ic+8,ec);
 z24(ic+12);
-w8(c+8,Jb+1);}}
+w8(c+8,Kb+1);}}
 else fill_rare_piece_017(b,c,l,o);
 L16:break;
-case 10:jc=Jb*36;
+case 10:jc=Kb*36;
 kc=rp(c)+jc;
 x4(kc,0);
 x4(kc+4,Pb);
@@ -23143,7 +23146,7 @@ lc[36]=3;
 lc[37]=0;
 x2(lc+38,7);
 z32(lc+40);
-w8(c+8,Jb+2);
+w8(c+8,Kb+2);
 break;
 case 11:*m=bc;
 m[1]=cc;
@@ -23155,33 +23158,33 @@ break;
 case 12:fill_instance_1f0(b,c,Xb,Yb,o);
 break;
 case 13:own_entity_238(n,b,Yb,o);
-mc=rp(c)+Jb*36;
+mc=rp(c)+Kb*36;
 nc=r4(n);
 x4(mc,0);
 x4(mc+4,nc);
 x4(mc+8,0);
 x4(mc+12,0);
 memcpy(mc+16,n+4,20);
-w8(c+8,Jb+1);
+w8(c+8,Kb+1);
 break;
-case 14:oc=rp(c)+Jb*36;
+case 14:oc=rp(c)+Kb*36;
 x4(oc,0);
 x4(oc+4,Xb);
 x4(oc+8,0);
 x4(oc+12,0);
 memcpy(oc+16,o,20);
-w8(c+8,Jb+1);
+w8(c+8,Kb+1);
 break;
 case 15:fill_tagged_146(c,Xb,Yb,Zb,o);
 break;
 case 17:pc=abbreviation_6bb(Wb);
 if(pc!=60){
-qc=rp(c)+Jb*36;
+qc=rp(c)+Kb*36;
 *qc=3;
 qc[1]=0;
 x2(qc+2,pc);
 z32(qc+4);
-w8(c+8,Jb+1);}
+w8(c+8,Kb+1);}
 break;
 case 18:fill_parameter_f0e(b,c,Xb,Yb,0,o);
 break;
@@ -23190,45 +23193,45 @@ switch(Vb){
 case 20:sc=Wb-97;
 if(sc<26){
 if((((u64)1<<sc)&1278976)==0){
-tc=rp(c)+Jb*36;
+tc=rp(c)+Kb*36;
 uc=r2((u8*)t_91f6+(u64)sc*2);
 *tc=3;
 tc[1]=0;
 x2(tc+2,uc);
 z32(tc+4);
-w8(c+8,Jb+1);}}
+w8(c+8,Kb+1);}}
 break;
 case 21:vc=Wb-97;
 if(vc<21){
 if((((u64)1<<vc)&777794)==0){
-wc=rp(c)+Jb*36;
+wc=rp(c)+Kb*36;
 xc=r2((u8*)t_1a3f+(u64)vc*2);
 *wc=3;
 wc[1]=0;
 x2(wc+2,xc);
 z32(wc+4);
-w8(c+8,Jb+1);}}
+w8(c+8,Kb+1);}}
 break;
 case 24:if(Yb!=Xb){
 yc=Tb+(i64)Xb;
 if(!((u64)Yb-Xb<10||*yc!=95)){
 zc=parts_equal_58b((u8*)t_35ad,10,yc,10);
 if(zc){
-Ac=rp(c)+Jb*36;
+Ac=rp(c)+Kb*36;
 *Ac=3;
 Ac[1]=0;
 x2(Ac+2,35);
 z32(Ac+4);
-w8(c+8,Jb+1);
+w8(c+8,Kb+1);
 break;}}}
 if(Xb<Yb){
-Bc=rp(c)+Jb*36;
+Bc=rp(c)+Kb*36;
 *Bc=1;
 z3(Bc+1);
 x4(Bc+4,Xb);
 x4(Bc+8,Yb);
 z24(Bc+12);
-w8(c+8,Jb+1);}
+w8(c+8,Kb+1);}
 break;
 case 25:fill_marked_395(b,c,Xb,o);
 break;
@@ -23240,7 +23243,7 @@ case 28:fill_array_c4d(b,c,Zb,o);
 break;
 case 29:fill_array_c4d(b,c,Yb,o);
 break;
-case 31:Cc=Jb*36;
+case 31:Cc=Kb*36;
 Dc=rp(c)+Cc;
 *Dc=3;
 Dc[1]=0;
@@ -23252,7 +23255,7 @@ x4(Ec+40,Xb);
 x4(Ec+44,0);
 x4(Ec+48,0);
 memcpy(Ec+52,o,20);
-w8(c+8,Jb+2);
+w8(c+8,Kb+2);
 break;
 case 30:fill_member_2fa(b,c,Xb,Yb,o);
 break;
@@ -23262,7 +23265,7 @@ fill_qualified_left_bf3(b,c,k,Xb,o);
 break;
 case 33:fill_vector_eb1(c,Xb,Yb,Zb,o);
 break;
-case 34:Fc=Jb*36;
+case 34:Fc=Kb*36;
 Gc=rp(c)+Fc;
 *Gc=3;
 Gc[1]=0;
@@ -23274,11 +23277,11 @@ x4(Hc+40,Xb);
 x4(Hc+44,0);
 x4(Hc+48,0);
 memcpy(Hc+52,o,20);
-w8(c+8,Jb+2);
+w8(c+8,Kb+2);
 break;
 case 22:fill_float_1e8(c,Xb,Yb,Zb);
 break;
-case 23:Ic=Jb*36;
+case 23:Ic=Kb*36;
 Jc=rp(c)+Ic;
 *Jc=3;
 Jc[1]=0;
@@ -23290,7 +23293,7 @@ x4(Kc+40,Xb);
 x4(Kc+44,0);
 x4(Kc+48,0);
 memcpy(Kc+52,o,20);
-w8(c+8,Jb+2);
+w8(c+8,Kb+2);
 break;
 case 0:case 1:case 2:case 3:case 4:case 5:case 6:case 7:case 8:case 9:case 10:case 11:case 12:case 13:case 14:case 15:case 16:case 17:case 18:case 19:case 35:case 36:case 37:case 38:case 39:case 40:case 41:case 42:case 43:case 44:case 45:case 46:case 47:w4(i,Zb);
 x8(i+4,ac);
@@ -23299,27 +23302,27 @@ case 36:fill_expansion_7b7(b,c,Xb,o);
 break;
 case 44:Lc=Mb+(i64)((u64)Xb*48);
 if(*(Mb+(i64)((u64)(*Lc==47?q4(Lc+4):Xb)*48))!=1){
-Mc=rp(c)+Jb*36;
+Mc=rp(c)+Kb*36;
 x4(Mc,0);
 x4(Mc+4,Xb);
 x4(Mc+8,2);
 x4(Mc+12,0);
 Mc[16]=bb;
 memcpy(Mc+17,o+1,3);
-x4(Mc+20,Lb);
-Mc[24]=cb;
+x4(Mc+20,cb);
+Mc[24]=db;
 z3(Mc+25);
 Mc[28]=Rb;
 memcpy(Mc+29,o+13,3);
 x4(Mc+32,Sb);
-w8(c+8,Jb+1);}
+w8(c+8,Kb+1);}
 break;
 case 37:w4(j,Yb);
 x8(j+4,r8(i));
 fill_integer_476(b,c,Xb,j,o);
 break;
-case 38:Nc=Jb+1;
-Oc=rp(c)+Jb*36;
+case 38:Nc=Kb+1;
+Oc=rp(c)+Kb*36;
 *Oc=3;
 Oc[1]=0;
 if(Wb&1){
@@ -23331,23 +23334,23 @@ x2(Oc+2,20);
 z32(Oc+4);
 w8(c+8,Nc);}
 break;
-case 39:Pc=rp(c)+Jb*36;
+case 39:Pc=rp(c)+Kb*36;
 *Pc=3;
 Pc[1]=0;
 x2(Pc+2,21);
 z32(Pc+4);
-w8(c+8,Jb+1);
+w8(c+8,Kb+1);
 break;
-case 40:Qc=rp(c)+Jb*36;
+case 40:Qc=rp(c)+Kb*36;
 x4(Qc,0);
 x4(Qc+4,Xb);
 x4(Qc+8,8);
 x4(Qc+12,0);
 x4(Qc+16,0);
 x4(Qc+20,0);
-Qc[24]=cb;
+Qc[24]=db;
 z11(Qc+25);
-w8(c+8,Jb+1);
+w8(c+8,Kb+1);
 break;
 case 41:fill_encoding_literal_a7e(c,Xb,o);
 break;
@@ -23388,15 +23391,15 @@ Tc=Rc[11];
 Uc=q4(Rc+16);
 Vc=q4(Rc+20);
 memcpy(h,Rc+8,3);
-if(cb<2)push_bare_366(b,c,Sc,h,Tc,Uc,Vc,cb);
+if(db<2)push_bare_366(b,c,Sc,h,Tc,Uc,Vc,db);
 else{
-Wc=rp(c)+Jb*36;
+Wc=rp(c)+Kb*36;
 x4(Wc,0);
 x4(Wc+4,Sc);
 z16(Wc+8);
-Wc[24]=cb;
+Wc[24]=db;
 z11(Wc+25);
-w8(c+8,Jb+1);}
+w8(c+8,Kb+1);}
 ;}
 else fill_full_b26(b,c,Pb,o);
 break;
@@ -23406,7 +23409,7 @@ Yc=q4(Xc+4);
 Zc=q4(Xc+8);
 ad=q4(Xc+12);
 if(Zc<ad){
-bd=Jb*36;
+bd=Kb*36;
 cd=rp(c)+bd;
 *cd=3;
 cd[1]=0;
@@ -23423,8 +23426,8 @@ ed[72]=3;
 ed[73]=0;
 x2(ed+74,22);
 z32(ed+76);
-fd=Jb+3;}
-else fd=Jb;
+fd=Kb+3;}
+else fd=Kb;
 gd=rp(c)+fd*36;
 x4(gd,0);
 x4(gd+4,Yc);
@@ -23432,7 +23435,7 @@ x4(gd+8,7);
 x4(gd+12,0);
 x4(gd+16,0);
 x4(gd+20,0);
-gd[24]=cb;
+gd[24]=db;
 z11(gd+25);
 w8(c+8,fd+1);}
 break;
@@ -23441,19 +23444,21 @@ break;
 default:fill_expand_aee(b,c,Pb,ab,o);
 break;}
 goto L5;}
-yb=3;
+zb=3;
 L15:hd=0;
-id=yb;
+id=zb;
 goto L17;
 L10:w4(q,Ya);
 w4(q+4,Za);
 w4(q+8,ab);
-x8(q+12,bb);
-q[20]=cb;
+q[12]=bb;
+memcpy(q+13,D-19,3);
+w4(q+16,cb);
+q[20]=db;
 memcpy(q+21,D-11,3);
-q[24]=db;
+q[24]=eb;
 memcpy(q+25,D-7,3);
-w4(q+28,eb);
+w4(q+28,fb);
 print_special_item_2f9(p,b,q,c,d,e,f,g);
 if(*p==0)goto L5;
 hd=r4(p+8);
@@ -24025,546 +24030,549 @@ L1:return c;
 /* sym_print::entries::print_special_item */
 static void print_special_item_2f9(u8* a,u8* b,u8* c,u8* d,u8* e,u8* f,u8* g,u8 h)
 {
-u8 i[3],j[3],k[3],n[3];
-A16 u8 l[12],m[12],o[16],p[16],q[24],r[20],s[80],t[32],u[12],v[32],w[76],x[32];
-u32 y,z,A,D,F,K,N,P,T,U,ka,qa,ra,Ja,Ka,Qa,Ra,Za,eb,ib,lb,qb,rb,sb,xb,Gb,mc,oc,pc,sc,tc,uc;
-u8 B,C,E,O,Q,ca,fa,ja,la,oa,pa,wa,Na,hb,jb,kb,ob,pb,ub,vb,wb,zb,Lb,Ob,Sb,lc,nc;
-u64 G,I,J,L,R,S,W,X,ba,da,ea,ga,ia,ma,sa,ta,ua,va,xa,ya,za,Aa,Fa,Ga,Ha,Ia,La,Ma,Oa,Sa,Ta,Ua,Va,ab,bb,cb,db,tb,Cb,Vb,Yb,bc,gc,vc,zc,Bc,Dc;
-u8 *H,*M,*V,*Y,*Z,*aa,*ha,*na,*Ba,*Ca,*Da,*Ea,*Pa,*fb,*gb,*mb,*nb,*yb,*Ab,*Bb,*Db,*Eb,*Fb,*Hb,*Jb,*Mb,*Pb,*Rb,*Tb,*Ub,*Wb,*Xb,*Zb,*ac,*cc,*dc,*ec,*fc,*hc,*ic,*jc,*kc,*qc,*rc,*wc,*xc,*yc,*Ac,*Cc;
-s_64_64 Wa,Xa,Ya;
-u16 Ib,Kb,Nb,Qb;
-z12(u);
-z76(w);
-z32(x);
-memcpy(v,c,32);
-y=r4(v);
-z=r4(v+4);
-A=r4(v+8);
-B=v[20];
+u8 i[3],j[3],k[3],l[3],o[3];
+A16 u8 m[12],n[12],p[16],q[16],r[24],s[20],t[80],u[32],v[12],w[32],x[76],y[32];
+u32 z,A,B,D,G,L,O,R,V,W,ma,pa,ua,va,Ma,Na,Ta,Ua,cb,kb,nb,sb,tb,ub,zb,Ib,oc,qc,rc,uc,vc,wc;
+u8 C,E,F,P,Q,S,ea,ha,la,na,oa,qa,sa,ta,Aa,Qa,jb,lb,mb,qb,rb,wb,xb,yb,Bb,Nb,Qb,Ub,nc,pc;
+u64 H,J,K,M,T,U,Y,Z,da,fa,ga,ia,ka,wa,xa,ya,za,Ba,Ca,Da,Ea,Ja,Ka,La,Oa,Pa,Ra,Va,Wa,Xa,Ya,db,eb,fb,gb,vb,Eb,Xb,ac,dc,ic,xc,Bc,Dc,Fc;
+u8 *I,*N,*X,*aa,*ba,*ca,*ja,*ra,*Fa,*Ga,*Ha,*Ia,*Sa,*hb,*ib,*ob,*pb,*Ab,*Cb,*Db,*Fb,*Gb,*Hb,*Jb,*Lb,*Ob,*Rb,*Tb,*Vb,*Wb,*Yb,*Zb,*bc,*cc,*ec,*fc,*gc,*hc,*jc,*kc,*lc,*mc,*sc,*tc,*yc,*zc,*Ac,*Cc,*Ec;
+s_64_64 Za,ab,bb;
+u16 Kb,Mb,Pb,Sb;
+z12(v);
+z76(x);
+z32(y);
+memcpy(w,c,32);
+z=r4(w);
+A=r4(w+4);
+B=r4(w+8);
 if(h){
-if(A==0){
-if(r8(f+80)>y){
-if(*(rp(f+72)+(i64)((u64)y*12)+8)&1){
-C=v[12];
-D=r4(v+16);
-E=v[24];
-F=r4(v+28);
-G=((((u64)y<<5)|(z&31))+(((E==0?0:((u64)F<<16)+65536)+(C==0?0:(u64)D+1))<<29))*0x9e3779b97f4a7c15u;
-H=rp(f+48);
-I=r8(f+56);
-J=G;
-K=0;
+if(B==0){
+if(r8(f+80)>z){
+if(*(rp(f+72)+(i64)((u64)z*12)+8)&1){
+C=w[12];
+D=r4(w+16);
+E=w[20];
+F=w[24];
+G=r4(w+28);
+H=((((u64)z<<5)|(A&31))+(((F==0?0:((u64)G<<16)+65536)+(C==0?0:(u64)D+1))<<29))*0x9e3779b97f4a7c15u;
+I=rp(f+48);
+J=r8(f+56);
+K=H;
 L=0;
-L1:if(L>=I){
-N=F;
-O=E;
-P=D;
-Q=C;
-R=L;
+M=0;
+L1:if(M>=J){
+O=G;
+P=F;
+Q=E;
+R=D;
+S=C;
+T=M;
 goto L2;}
-M=H+(i64)(L<<4);
-if(r8(M)==G){
-N=F;
-O=E;
-P=D;
-Q=C;
-R=L;
+N=I+(i64)(M<<4);
+if(r8(N)==H){
+O=G;
+P=F;
+Q=E;
+R=D;
+S=C;
+T=M;
 goto L2;}
-S=fshl64(J,J,1);
-T=r4(M+(i64)(u64)((S&1)==0?8:12));
-U=K+1;
-if(U!=64){
-J=S;
+U=fshl64(K,K,1);
+V=r4(N+(i64)(u64)((U&1)==0?8:12));
+W=L+1;
+if(W!=64){
 K=U;
-L=T;
+L=W;
+M=V;
 goto L1;}
-N=F;
-O=E;
-P=D;
-Q=C;
-R=T;
+O=G;
+P=F;
+Q=E;
+R=D;
+S=C;
+T=V;
 goto L2;}}}}
 else{
-if(z==0){
-V=rp(b+24);
-W=(u64)y*48;
-if(*(V+(i64)W)!=12){
-X=W;
-Y=V;
+if(A==0){
+X=rp(b+24);
+Y=(u64)z*48;
+if((u8)(*(X+(i64)Y)-11)>=3){
+Z=Y;
+aa=X;
 goto L3;}
-switch(B){
-case 0:case 2:N=r4(v+28);
-O=v[24];
-P=r4(v+16);
-Q=v[12];
-R=y&63;
-goto L2;
-case 1:case 3:X=W;
-Y=V;
-goto L3;
-default:NEVER;
-}}}
-if(z>1)goto L4;
-X=(u64)y*48;
-Y=rp(b+24);
-L3:Z=Y+(i64)X;
-if(*Z==25){
-aa=Y+(i64)((u64)q4(Z+4)*48);
-if(*aa==25){
-ba=(u64)q4(aa+4)*48;
-if(*(Y+(i64)ba)!=25)goto L4;
-ca=0;
-da=ba;
-L5:ea=(u64)q4(Y+(i64)da+4)*48;
-if(*(Y+(i64)ea)!=25)goto L4;
-if(ca)goto L6;
-ca=1;
-da=ea;
+O=r4(w+28);
+P=w[24];
+Q=w[20];
+R=r4(w+16);
+S=w[12];
+T=z&63;
+goto L2;}}
+if(A>1)goto L4;
+Z=(u64)z*48;
+aa=rp(b+24);
+L3:ba=aa+(i64)Z;
+if(*ba==25){
+ca=aa+(i64)((u64)q4(ba+4)*48);
+if(*ca==25){
+da=(u64)q4(ca+4)*48;
+if(*(aa+(i64)da)!=25)goto L4;
+ea=0;
+fa=da;
+L5:ga=(u64)q4(aa+(i64)fa+4)*48;
+if(*(aa+(i64)ga)!=25)goto L4;
+if(ea)goto L6;
+ea=1;
+fa=ga;
 goto L5;}
-fa=0;
-ga=X;
-L7:ha=Y+(i64)((u64)q4(Y+(i64)ga+4)*48);
-if(*ha!=32)goto L4;
-if(!(!(ha[1]&1||ha[2]&1)&&ha[3]&1))goto L4;
-ia=(u64)q4(ha+4)*48;
-if(*(Y+(i64)ia)!=25)goto L4;
-if(!fa){
-fa=1;
-ga=ia;
+ha=0;
+ia=Z;
+L7:ja=aa+(i64)((u64)q4(aa+(i64)ia+4)*48);
+if(*ja!=32)goto L4;
+if(!(!(ja[1]&1||ja[2]&1)&&ja[3]&1))goto L4;
+ka=(u64)q4(ja+4)*48;
+if(*(aa+(i64)ka)!=25)goto L4;
+if(!ha){
+ha=1;
+ia=ka;
 goto L7;}
-L6:memcpy(t,c,32);
-z80(s);
-run_of_1dc(s,b,t);
-ja=*s;
-memcpy(w,s+4,76);
-if(ja==1){
-memcpy(x,c,32);
-print_run_dec(u,x,w,d,f,g,h);
-*a=*u;
-x4(a+4,u[4]);
-x4(a+8,r4(u+8));
+L6:memcpy(u,c,32);
+z80(t);
+run_of_1dc(t,b,u);
+la=*t;
+memcpy(x,t+4,76);
+if(la==1){
+memcpy(y,c,32);
+print_run_dec(v,y,x,d,f,g,h);
+*a=*v;
+x4(a+4,v[4]);
+x4(a+8,r4(v+8));
 goto L8;}}
-L4:ka=r4(v+28);
-la=v[24];
-ma=q8(v+12);
+L4:ma=r4(w+28);
+na=w[24];
+oa=w[20];
+pa=r4(w+16);
+qa=w[12];
 goto L9;
-L2:if(R<r8(f+8)){
-na=rp(f)+(i64)(R*56);
-if(r4(na)==y){
-if(r4(na+4)==z){
-if(r4(na+8)==A){
-oa=Q==1;
-if(na[12]==1){
-if(!oa)goto L10;
-if(r4(na+16)!=P)goto L10;}
+L2:if(T<r8(f+8)){
+ra=rp(f)+(i64)(T*56);
+if(r4(ra)==z){
+if(r4(ra+4)==A){
+if(r4(ra+8)==B){
+sa=S==1;
+if(ra[12]==1){
+if(!sa)goto L10;
+if(r4(ra+16)!=R)goto L10;}
 else {
-if(oa)goto L10;}
-if(na[20]==B){
-pa=O==1;
-if(na[24]==1){
-if(!pa)goto L10;
-if(r4(na+28)!=N)goto L10;}
+if(sa)goto L10;}
+if(ra[20]==Q){
+ta=P==1;
+if(ra[24]==1){
+if(!ta)goto L10;
+if(r4(ra+28)!=O)goto L10;}
 else {
-if(pa)goto L10;}
-if(r4(na+40)<=r4(g+4)-r4(g)){
-ra=r4(na+32);
-sa=r8(e+8);
-ta=(u64)r4(na+36)-ra;
-ua=ta+sa;
-if(ua>sa){
-va=r8(e+16);
-if(ta>va-sa){
-wa=grow_amortized_2b6(e,ta);
-if(!wa){
-qa=4;
-goto L11;}
-xa=r8(e+8);
-ya=xa+ta;
+if(ta)goto L10;}
+if(r4(ra+40)<=r4(g+4)-r4(g)){
+va=r4(ra+32);
+wa=r8(e+8);
+xa=(u64)r4(ra+36)-va;
+ya=xa+wa;
+if(ya>wa){
 za=r8(e+16);
-Aa=xa;}
+if(xa>za-wa){
+Aa=grow_amortized_2b6(e,xa);
+if(!Aa){
+ua=4;
+goto L11;}
+Ba=r8(e+8);
+Ca=Ba+xa;
+Da=r8(e+16);
+Ea=Ba;}
 else{
-ya=ua;
-za=va;
-Aa=sa;}
-Ba=rp(e);
-if(Aa<ya)memset(Ba+(i64)Aa,0,ta);
-wp(e,Ba);
-w8(e+8,ya);
-w8(e+16,za);}
+Ca=ya;
+Da=za;
+Ea=wa;}
+Fa=rp(e);
+if(Ea<Ca)memset(Fa+(i64)Ea,0,xa);
+wp(e,Fa);
+w8(e+8,Ca);
+w8(e+16,Da);}
 else {
-if(sa>ua)w8(e+8,ua);}
-Ca=rp(e);
-Da=Ca+(i64)sa;
-Ea=Ca+(i64)ra;
-if(sa-ra<ta)copy_bits_4f4(Ea,Da,ta);
-else memmove(Da,Ea,ta);
-Fa=r8(g+8)+r8(na+48);
-w4(g,r4(g)+r4(na+40));
-w8(g+8,Fa);
-Ga=r8(d+8);
-if(Ga!=0)w8(d+8,Ga-1);
+if(wa>ya)w8(e+8,ya);}
+Ga=rp(e);
+Ha=Ga+(i64)wa;
+Ia=Ga+(i64)va;
+if(wa-va<xa)copy_bits_4f4(Ia,Ha,xa);
+else memmove(Ha,Ia,xa);
+Ja=r8(g+8)+r8(ra+48);
+w4(g,r4(g)+r4(ra+40));
+w8(g+8,Ja);
+Ka=r8(d+8);
+if(Ka!=0)w8(d+8,Ka-1);
 *a=0;
 x4(a+4,0);
 x4(a+8,0);
 goto L8;}
-qa=3;
+ua=3;
 L11:*a=1;
-x4(a+4,qa);
+x4(a+4,ua);
 x4(a+8,0);
 goto L8;}}}}}
-L10:Ha=q8(v+12);
-Ia=r8(d+8)-1;
-Ja=r8(e+8);
-Ka=r4(g);
-La=r8(g+8);
-memcpy(j,c+21,3);
-memcpy(k,c+25,3);
-Ma=r8(f+32);
-if(r8(f+40)==Ma){
-Na=grow_amortized_ab4(f+24);
-if(!Na)goto L12;
-Oa=r8(f+32);}
-else Oa=Ma;
-Pa=rp(f+24)+Oa*56;
-x4(Pa,y);
-x4(Pa+4,z);
-x4(Pa+8,A);
-x8(Pa+12,Ha);
-Pa[20]=B;
-memcpy(Pa+21,j,3);
-Pa[24]=O;
-memcpy(Pa+25,k,3);
-x4(Pa+28,N);
-x8(Pa+32,Ia);
-x4(Pa+40,Ja);
-x4(Pa+44,Ka);
-x8(Pa+48,La);
-w8(f+32,Oa+1);
-L12:ka=N;
-la=O;
-ma=Ha;
-L9:Qa=r4(g);
-if(r4(g+4)!=Qa){
-Sa=r8(d+8);
-Ta=r8(d+16);
-if(Ta-Sa<8){
-Ua=umax64(Sa,8);
-if(Ua>(Sa^18446744073709551615u)){
-Ra=4;
+L10:La=r8(d+8)-1;
+Ma=r8(e+8);
+Na=r4(g);
+Oa=r8(g+8);
+memcpy(j,c+13,3);
+memcpy(k,c+21,3);
+memcpy(l,c+25,3);
+Pa=r8(f+32);
+if(r8(f+40)==Pa){
+Qa=grow_amortized_ab4(f+24);
+if(!Qa)goto L12;
+Ra=r8(f+32);}
+else Ra=Pa;
+Sa=rp(f+24)+Ra*56;
+x4(Sa,z);
+x4(Sa+4,A);
+x4(Sa+8,B);
+Sa[12]=S;
+memcpy(Sa+13,j,3);
+x4(Sa+16,R);
+Sa[20]=Q;
+memcpy(Sa+21,k,3);
+Sa[24]=P;
+memcpy(Sa+25,l,3);
+x4(Sa+28,O);
+x8(Sa+32,La);
+x4(Sa+40,Ma);
+x4(Sa+44,Na);
+x8(Sa+48,Oa);
+w8(f+32,Ra+1);
+L12:ma=O;
+na=P;
+oa=Q;
+pa=R;
+qa=S;
+L9:Ta=r4(g);
+if(r4(g+4)!=Ta){
+Va=r8(d+8);
+Wa=r8(d+16);
+if(Wa-Va<8){
+Xa=umax64(Va,8);
+if(Xa>(Va^18446744073709551615u)){
+Ua=4;
 goto L13;}
-Va=Ua+Sa;
-if(Va>=0x38e38e38e38e38fu){
-Ra=4;
+Ya=Xa+Va;
+if(Ya>=0x38e38e38e38e38fu){
+Ua=4;
 goto L13;}
-if(Ta==0){
-Wa=port_rattle_alloc(Va*36,4);
-if(!(u8)(Wa.f0&1)){
-Ra=4;
+if(Wa==0){
+Za=port_rattle_alloc(Ya*36,4);
+if(!(u8)(Za.f0&1)){
+Ua=4;
 goto L13;}
-Xa=Wa;}
+ab=Za;}
 else{
-Ya=port_rattle_realloc(rp(d),Sa*36,Va*36,4);
-if(!(u8)(Ya.f0&1)){
-Ra=4;
+bb=port_rattle_realloc(rp(d),Va*36,Ya*36,4);
+if(!(u8)(bb.f0&1)){
+Ua=4;
 goto L13;}
-Xa=Ya;}
-wp(d,(u8*)Xa.f1);
-w8(d+16,Va);
-Za=r4(g);}
-else Za=Qa;
-ab=r8(g+8)+1;
-w4(g,Za+1);
-w8(g+8,ab);
-bb=r8(d+8);
-if(bb==0)cb=0;
+ab=bb;}
+wp(d,(u8*)ab.f1);
+w8(d+16,Ya);
+cb=r4(g);}
+else cb=Ta;
+db=r8(g+8)+1;
+w4(g,cb+1);
+w8(g+8,db);
+eb=r8(d+8);
+if(eb==0)fb=0;
 else{
-db=bb-1;
-w8(d+8,db);
-cb=db;}
-eb=ma>>32;
-fb=rp(b+24);
-gb=fb+(i64)((u64)y*48);
-hb=*gb==47;
-ib=hb?q4(gb+4):y;
-jb=la!=0;
-kb=jb||hb;
-lb=jb?ka:(hb?q4(gb+8):0);
-w4(r,(u32)ma&255);
-w4(r+4,eb);
-r[8]=B;
-z3(r+9);
-w4(r+12,kb);
-w4(r+16,lb);
-switch(z){
-case 0:z16(p);
-z24(q);
-mb=rp(b);
-nb=fb+(i64)((u64)ib*48);
-ob=*nb;
-pb=nb[1];
-qb=q4(nb+4);
-rb=q4(nb+8);
-sb=q4(nb+12);
-tb=q8(nb+16);
-ub=rb;
-vb=rb>>8;
-wb=rb>>16;
-switch(ob){
-case 9:w8(o,0);
-*o=ub;
-o[1]=vb;
-o[2]=wb;
-w4(o+4,sb);
-w8(o+8,tb);
-if(ub==0){
-xb=tb;
-if(sb!=xb){
-yb=mb+(i64)sb;
-if(!((tb&4294967295u)-sb<10||*yb!=95)){
-zb=parts_equal_58b((u8*)t_35ad,10,yb,10);
-if(zb){
-Ab=rp(d)+cb*36;
-*Ab=3;
-Ab[1]=0;
-x2(Ab+2,35);
-z32(Ab+4);
-w8(d+8,cb+1);
+gb=eb-1;
+w8(d+8,gb);
+fb=gb;}
+hb=rp(b+24);
+ib=hb+(i64)((u64)z*48);
+jb=*ib==47;
+kb=jb?q4(ib+4):z;
+lb=na!=0;
+mb=lb||jb;
+nb=lb?ma:(jb?q4(ib+8):0);
+w4(s,qa);
+w4(s+4,pa);
+s[8]=oa;
+z3(s+9);
+w4(s+12,mb);
+w4(s+16,nb);
+switch(A){
+case 0:z16(q);
+z24(r);
+ob=rp(b);
+pb=hb+(i64)((u64)kb*48);
+qb=*pb;
+rb=pb[1];
+sb=q4(pb+4);
+tb=q4(pb+8);
+ub=q4(pb+12);
+vb=q8(pb+16);
+wb=tb;
+xb=tb>>8;
+yb=tb>>16;
+switch(qb){
+case 9:w8(p,0);
+*p=wb;
+p[1]=xb;
+p[2]=yb;
+w4(p+4,ub);
+w8(p+8,vb);
+if(wb==0){
+zb=vb;
+if(ub!=zb){
+Ab=ob+(i64)ub;
+if(!((vb&4294967295u)-ub<10||*Ab!=95)){
+Bb=parts_equal_58b((u8*)t_35ad,10,Ab,10);
+if(Bb){
+Cb=rp(d)+fb*36;
+*Cb=3;
+Cb[1]=0;
+x2(Cb+2,35);
+z32(Cb+4);
+w8(d+8,fb+1);
 goto L14;}}}
-if(sb<xb){
-Bb=rp(d)+cb*36;
-*Bb=1;
-z3(Bb+1);
-x4(Bb+4,sb);
-x4(Bb+8,xb);
-z24(Bb+12);
-w8(d+8,cb+1);}}
-else fill_rare_piece_017(b,d,o,r);
+if(ub<zb){
+Db=rp(d)+fb*36;
+*Db=1;
+z3(Db+1);
+x4(Db+4,ub);
+x4(Db+8,zb);
+z24(Db+12);
+w8(d+8,fb+1);}}
+else fill_rare_piece_017(b,d,p,s);
 L14:break;
-case 10:Cb=cb*36;
-Db=rp(d)+Cb;
-x4(Db,0);
-x4(Db+4,ib);
-x4(Db+8,6);
-x4(Db+12,0);
-memcpy(Db+16,r,20);
-Eb=rp(d)+(i64)Cb;
-Eb[36]=3;
-Eb[37]=0;
-x2(Eb+38,7);
-z32(Eb+40);
-w8(d+8,cb+2);
-break;
-case 11:*p=ub;
-p[1]=vb;
-p[2]=wb;
-w4(p+4,sb);
-w8(p+8,tb);
-fill_within_6bb(b,d,ib,qb,p,r);
-break;
-case 12:fill_instance_1f0(b,d,qb,rb,r);
-break;
-case 13:own_entity_238(q,b,rb,r);
-Fb=rp(d)+cb*36;
-Gb=r4(q);
+case 10:Eb=fb*36;
+Fb=rp(d)+Eb;
 x4(Fb,0);
-x4(Fb+4,Gb);
-x4(Fb+8,0);
+x4(Fb+4,kb);
+x4(Fb+8,6);
 x4(Fb+12,0);
-memcpy(Fb+16,q+4,20);
-w8(d+8,cb+1);
+memcpy(Fb+16,s,20);
+Gb=rp(d)+(i64)Eb;
+Gb[36]=3;
+Gb[37]=0;
+x2(Gb+38,7);
+z32(Gb+40);
+w8(d+8,fb+2);
 break;
-case 14:Hb=rp(d)+cb*36;
+case 11:*q=wb;
+q[1]=xb;
+q[2]=yb;
+w4(q+4,ub);
+w8(q+8,vb);
+fill_within_6bb(b,d,kb,sb,q,s);
+break;
+case 12:fill_instance_1f0(b,d,sb,tb,s);
+break;
+case 13:own_entity_238(r,b,tb,s);
+Hb=rp(d)+fb*36;
+Ib=r4(r);
 x4(Hb,0);
-x4(Hb+4,qb);
+x4(Hb+4,Ib);
 x4(Hb+8,0);
 x4(Hb+12,0);
-memcpy(Hb+16,r,20);
-w8(d+8,cb+1);
+memcpy(Hb+16,r+4,20);
+w8(d+8,fb+1);
 break;
-case 15:fill_tagged_146(d,qb,rb,sb,r);
+case 14:Jb=rp(d)+fb*36;
+x4(Jb,0);
+x4(Jb+4,sb);
+x4(Jb+8,0);
+x4(Jb+12,0);
+memcpy(Jb+16,s,20);
+w8(d+8,fb+1);
 break;
-case 17:Ib=abbreviation_6bb(pb);
-if(Ib!=60){
-Jb=rp(d)+cb*36;
-*Jb=3;
-Jb[1]=0;
-x2(Jb+2,Ib);
-z32(Jb+4);
-w8(d+8,cb+1);}
+case 15:fill_tagged_146(d,sb,tb,ub,s);
 break;
-case 18:fill_parameter_f0e(b,d,qb,rb,0,r);
+case 17:Kb=abbreviation_6bb(rb);
+if(Kb!=60){
+Lb=rp(d)+fb*36;
+*Lb=3;
+Lb[1]=0;
+x2(Lb+2,Kb);
+z32(Lb+4);
+w8(d+8,fb+1);}
 break;
-case 0:case 1:case 2:case 3:case 4:case 5:case 6:case 7:case 8:case 16:case 19:case 20:case 21:case 22:case 23:case 24:case 25:case 26:case 27:case 28:case 29:case 30:case 31:case 32:case 33:case 34:case 35:case 36:case 37:case 38:case 39:case 40:case 41:case 42:case 43:case 44:case 45:case 46:case 47:Kb=q2(nb+2);
-switch(ob){
-case 20:Lb=pb-97;
-if(Lb<26){
-if((((u64)1<<Lb)&1278976)==0){
-Mb=rp(d)+cb*36;
-Nb=r2((u8*)t_91f6+(u64)Lb*2);
-*Mb=3;
-Mb[1]=0;
-x2(Mb+2,Nb);
-z32(Mb+4);
-w8(d+8,cb+1);}}
+case 18:fill_parameter_f0e(b,d,sb,tb,0,s);
 break;
-case 21:Ob=pb-97;
-if(Ob<21){
-if((((u64)1<<Ob)&777794)==0){
-Pb=rp(d)+cb*36;
-Qb=r2((u8*)t_1a3f+(u64)Ob*2);
-*Pb=3;
-Pb[1]=0;
-x2(Pb+2,Qb);
-z32(Pb+4);
-w8(d+8,cb+1);}}
+case 0:case 1:case 2:case 3:case 4:case 5:case 6:case 7:case 8:case 16:case 19:case 20:case 21:case 22:case 23:case 24:case 25:case 26:case 27:case 28:case 29:case 30:case 31:case 32:case 33:case 34:case 35:case 36:case 37:case 38:case 39:case 40:case 41:case 42:case 43:case 44:case 45:case 46:case 47:Mb=q2(pb+2);
+switch(qb){
+case 20:Nb=rb-97;
+if(Nb<26){
+if((((u64)1<<Nb)&1278976)==0){
+Ob=rp(d)+fb*36;
+Pb=r2((u8*)t_91f6+(u64)Nb*2);
+*Ob=3;
+Ob[1]=0;
+x2(Ob+2,Pb);
+z32(Ob+4);
+w8(d+8,fb+1);}}
 break;
-case 24:if(rb!=qb){
-Rb=mb+(i64)qb;
-if(!((u64)rb-qb<10||*Rb!=95)){
-Sb=parts_equal_58b((u8*)t_35ad,10,Rb,10);
-if(Sb){
-Tb=rp(d)+cb*36;
-*Tb=3;
-Tb[1]=0;
-x2(Tb+2,35);
-z32(Tb+4);
-w8(d+8,cb+1);
+case 21:Qb=rb-97;
+if(Qb<21){
+if((((u64)1<<Qb)&777794)==0){
+Rb=rp(d)+fb*36;
+Sb=r2((u8*)t_1a3f+(u64)Qb*2);
+*Rb=3;
+Rb[1]=0;
+x2(Rb+2,Sb);
+z32(Rb+4);
+w8(d+8,fb+1);}}
+break;
+case 24:if(tb!=sb){
+Tb=ob+(i64)sb;
+if(!((u64)tb-sb<10||*Tb!=95)){
+Ub=parts_equal_58b((u8*)t_35ad,10,Tb,10);
+if(Ub){
+Vb=rp(d)+fb*36;
+*Vb=3;
+Vb[1]=0;
+x2(Vb+2,35);
+z32(Vb+4);
+w8(d+8,fb+1);
 break;}}}
-if(qb<rb){
-Ub=rp(d)+cb*36;
-*Ub=1;
-z3(Ub+1);
-x4(Ub+4,qb);
-x4(Ub+8,rb);
-z24(Ub+12);
-w8(d+8,cb+1);}
+if(sb<tb){
+Wb=rp(d)+fb*36;
+*Wb=1;
+z3(Wb+1);
+x4(Wb+4,sb);
+x4(Wb+8,tb);
+z24(Wb+12);
+w8(d+8,fb+1);}
 break;
-case 25:fill_marked_395(b,d,qb,r);
+case 25:fill_marked_395(b,d,sb,s);
 break;
-case 26:fill_reference_bf6(b,d,qb,4,11,10,r);
+case 26:fill_reference_bf6(b,d,sb,4,11,10,s);
 break;
-case 27:fill_reference_bf6(b,d,qb,0,13,12,r);
+case 27:fill_reference_bf6(b,d,sb,0,13,12,s);
 break;
-case 28:fill_array_c4d(b,d,sb,r);
+case 28:fill_array_c4d(b,d,ub,s);
 break;
-case 29:fill_array_c4d(b,d,rb,r);
+case 29:fill_array_c4d(b,d,tb,s);
 break;
-case 31:Vb=cb*36;
-Wb=rp(d)+Vb;
-*Wb=3;
-Wb[1]=0;
-x2(Wb+2,4);
-z32(Wb+4);
-Xb=rp(d)+(i64)Vb;
-x4(Xb+36,0);
-x4(Xb+40,qb);
-x4(Xb+44,0);
-x4(Xb+48,0);
-memcpy(Xb+52,r,20);
-w8(d+8,cb+2);
+case 31:Xb=fb*36;
+Yb=rp(d)+Xb;
+*Yb=3;
+Yb[1]=0;
+x2(Yb+2,4);
+z32(Yb+4);
+Zb=rp(d)+(i64)Xb;
+x4(Zb+36,0);
+x4(Zb+40,sb);
+x4(Zb+44,0);
+x4(Zb+48,0);
+memcpy(Zb+52,s,20);
+w8(d+8,fb+2);
 break;
-case 30:fill_member_2fa(b,d,qb,rb,r);
+case 30:fill_member_2fa(b,d,sb,tb,s);
 break;
-case 32:*n=pb;
-x2(n+1,Kb);
-fill_qualified_left_bf3(b,d,n,qb,r);
+case 32:*o=rb;
+x2(o+1,Mb);
+fill_qualified_left_bf3(b,d,o,sb,s);
 break;
-case 33:fill_vector_eb1(d,qb,rb,sb,r);
+case 33:fill_vector_eb1(d,sb,tb,ub,s);
 break;
-case 34:Yb=cb*36;
-Zb=rp(d)+Yb;
-*Zb=3;
-Zb[1]=0;
-x2(Zb+2,18);
-z32(Zb+4);
-ac=rp(d)+(i64)Yb;
-x4(ac+36,0);
-x4(ac+40,qb);
-x4(ac+44,0);
-x4(ac+48,0);
-memcpy(ac+52,r,20);
-w8(d+8,cb+2);
+case 34:ac=fb*36;
+bc=rp(d)+ac;
+*bc=3;
+bc[1]=0;
+x2(bc+2,18);
+z32(bc+4);
+cc=rp(d)+(i64)ac;
+x4(cc+36,0);
+x4(cc+40,sb);
+x4(cc+44,0);
+x4(cc+48,0);
+memcpy(cc+52,s,20);
+w8(d+8,fb+2);
 break;
-case 22:fill_float_1e8(d,qb,rb,sb);
+case 22:fill_float_1e8(d,sb,tb,ub);
 break;
-case 23:bc=cb*36;
-cc=rp(d)+bc;
-*cc=3;
-cc[1]=0;
-x2(cc+2,pb==107?46:47);
-z32(cc+4);
-dc=rp(d)+(i64)bc;
-x4(dc+36,0);
-x4(dc+40,qb);
-x4(dc+44,0);
-x4(dc+48,0);
-memcpy(dc+52,r,20);
-w8(d+8,cb+2);
+case 23:dc=fb*36;
+ec=rp(d)+dc;
+*ec=3;
+ec[1]=0;
+x2(ec+2,rb==107?46:47);
+z32(ec+4);
+fc=rp(d)+(i64)dc;
+x4(fc+36,0);
+x4(fc+40,sb);
+x4(fc+44,0);
+x4(fc+48,0);
+memcpy(fc+52,s,20);
+w8(d+8,fb+2);
 break;
-case 0:case 1:case 2:case 3:case 4:case 5:case 6:case 7:case 8:case 9:case 10:case 11:case 12:case 13:case 14:case 15:case 16:case 17:case 18:case 19:case 35:case 36:case 37:case 38:case 39:case 40:case 41:case 42:case 43:case 44:case 45:case 46:case 47:w4(l,sb);
-x8(l+4,tb);
-switch(ob){
-case 36:fill_expansion_7b7(b,d,qb,r);
+case 0:case 1:case 2:case 3:case 4:case 5:case 6:case 7:case 8:case 9:case 10:case 11:case 12:case 13:case 14:case 15:case 16:case 17:case 18:case 19:case 35:case 36:case 37:case 38:case 39:case 40:case 41:case 42:case 43:case 44:case 45:case 46:case 47:w4(m,ub);
+x8(m+4,vb);
+switch(qb){
+case 36:fill_expansion_7b7(b,d,sb,s);
 break;
-case 44:ec=fb+(i64)((u64)qb*48);
-if(*(fb+(i64)((u64)(*ec==47?q4(ec+4):qb)*48))!=1){
-fc=rp(d)+cb*36;
-x4(fc,0);
-x4(fc+4,qb);
-x4(fc+8,2);
-x4(fc+12,0);
-fc[16]=ma;
-memcpy(fc+17,r+1,3);
-x4(fc+20,eb);
-fc[24]=B;
-z3(fc+25);
-fc[28]=kb;
-memcpy(fc+29,r+13,3);
-x4(fc+32,lb);
-w8(d+8,cb+1);}
+case 44:gc=hb+(i64)((u64)sb*48);
+if(*(hb+(i64)((u64)(*gc==47?q4(gc+4):sb)*48))!=1){
+hc=rp(d)+fb*36;
+x4(hc,0);
+x4(hc+4,sb);
+x4(hc+8,2);
+x4(hc+12,0);
+hc[16]=qa;
+memcpy(hc+17,s+1,3);
+x4(hc+20,pa);
+hc[24]=oa;
+z3(hc+25);
+hc[28]=mb;
+memcpy(hc+29,s+13,3);
+x4(hc+32,nb);
+w8(d+8,fb+1);}
 break;
-case 37:w4(m,rb);
-x8(m+4,r8(l));
-fill_integer_476(b,d,qb,m,r);
+case 37:w4(n,tb);
+x8(n+4,r8(m));
+fill_integer_476(b,d,sb,n,s);
 break;
-case 38:gc=cb+1;
-hc=rp(d)+cb*36;
-*hc=3;
-hc[1]=0;
-if(pb&1){
-x2(hc+2,19);
-z32(hc+4);
-w8(d+8,gc);}
+case 38:ic=fb+1;
+jc=rp(d)+fb*36;
+*jc=3;
+jc[1]=0;
+if(rb&1){
+x2(jc+2,19);
+z32(jc+4);
+w8(d+8,ic);}
 else{
-x2(hc+2,20);
-z32(hc+4);
-w8(d+8,gc);}
+x2(jc+2,20);
+z32(jc+4);
+w8(d+8,ic);}
 break;
-case 39:ic=rp(d)+cb*36;
-*ic=3;
-ic[1]=0;
-x2(ic+2,21);
-z32(ic+4);
-w8(d+8,cb+1);
+case 39:kc=rp(d)+fb*36;
+*kc=3;
+kc[1]=0;
+x2(kc+2,21);
+z32(kc+4);
+w8(d+8,fb+1);
 break;
-case 40:jc=rp(d)+cb*36;
-x4(jc,0);
-x4(jc+4,qb);
-x4(jc+8,8);
-x4(jc+12,0);
-x4(jc+16,0);
-x4(jc+20,0);
-jc[24]=B;
-z11(jc+25);
-w8(d+8,cb+1);
+case 40:lc=rp(d)+fb*36;
+x4(lc,0);
+x4(lc+4,sb);
+x4(lc+8,8);
+x4(lc+12,0);
+x4(lc+16,0);
+x4(lc+20,0);
+lc[24]=oa;
+z11(lc+25);
+w8(d+8,fb+1);
 break;
-case 41:fill_encoding_literal_a7e(d,qb,r);
+case 41:fill_encoding_literal_a7e(d,sb,s);
 break;
-case 35:fill_decltype_7a2(d,qb,r);
+case 35:fill_decltype_7a2(d,sb,s);
 break;
-case 42:fill_operation_6d8(b,d,pb,Kb,qb,rb,r);
+case 42:fill_operation_6d8(b,d,rb,Mb,sb,tb,s);
 break;
-case 43:fill_function_parameter_419(d,qb,rb);
+case 43:fill_function_parameter_419(d,sb,tb);
 break;
 case 0:case 1:case 2:case 3:case 4:case 5:case 6:case 7:case 8:case 9:case 10:case 11:case 12:case 13:case 14:case 15:case 16:case 17:case 18:case 19:case 20:case 21:case 22:case 23:case 24:case 25:case 26:case 27:case 28:case 29:case 30:case 31:case 32:case 33:case 34:case 45:case 46:case 47:break;
 default:NEVER;
@@ -24576,96 +24584,96 @@ break;
 default:NEVER;
 }
 break;
-case 1:fill_right_3bf(b,d,ib,r);
+case 1:fill_right_3bf(b,d,kb,s);
 break;
-case 2:fill_first_of_85e(b,d,ib,r);
+case 2:fill_first_of_85e(b,d,kb,s);
 break;
-case 3:fill_more_of_557(b,d,ib,r);
+case 3:fill_more_of_557(b,d,kb,s);
 break;
-case 4:fill_low_4b1(b,d,ib,r);
+case 4:fill_low_4b1(b,d,kb,s);
 break;
-case 5:fill_base_3b5(b,d,ib,r);
+case 5:fill_base_3b5(b,d,kb,s);
 break;
-case 6:fill_own_piece_0f9(b,d,ib,r);
+case 6:fill_own_piece_0f9(b,d,kb,s);
 break;
-case 7:fill_full_b26(b,d,ib,r);
+case 7:fill_full_b26(b,d,kb,s);
 break;
-case 8:kc=fb+(i64)((u64)ib*48);
-if(*kc==2){
-lc=r[8];
-mc=q4(kc+4);
-nc=kc[11];
-oc=q4(kc+16);
-pc=q4(kc+20);
-memcpy(i,kc+8,3);
-if(lc<2)push_bare_366(b,d,mc,i,nc,oc,pc,lc);
+case 8:mc=hb+(i64)((u64)kb*48);
+if(*mc==2){
+nc=s[8];
+oc=q4(mc+4);
+pc=mc[11];
+qc=q4(mc+16);
+rc=q4(mc+20);
+memcpy(i,mc+8,3);
+if(nc<2)push_bare_366(b,d,oc,i,pc,qc,rc,nc);
 else{
-qc=rp(d)+cb*36;
-x4(qc,0);
-x4(qc+4,mc);
-z16(qc+8);
-qc[24]=lc;
-z11(qc+25);
-w8(d+8,cb+1);}
+sc=rp(d)+fb*36;
+x4(sc,0);
+x4(sc+4,oc);
+z16(sc+8);
+sc[24]=nc;
+z11(sc+25);
+w8(d+8,fb+1);}
 ;}
-else fill_full_b26(b,d,ib,r);
+else fill_full_b26(b,d,kb,s);
 break;
-case 9:rc=fb+(i64)((u64)ib*48);
-if(*rc==46){
-sc=q4(rc+4);
-tc=q4(rc+8);
-uc=q4(rc+12);
-if(tc<uc){
-vc=cb*36;
-wc=rp(d)+vc;
-*wc=3;
-wc[1]=0;
-x2(wc+2,3);
-z32(wc+4);
-xc=rp(d)+(i64)vc;
-xc[36]=1;
-z3(xc+37);
-x4(xc+40,tc);
-x4(xc+44,uc);
-z24(xc+48);
-yc=rp(d)+(i64)vc;
-yc[72]=3;
-yc[73]=0;
-x2(yc+74,22);
-z32(yc+76);
-zc=cb+3;}
-else zc=cb;
-Ac=rp(d)+zc*36;
-x4(Ac,0);
-x4(Ac+4,sc);
-x4(Ac+8,7);
-x4(Ac+12,0);
-x4(Ac+16,0);
-x4(Ac+20,0);
-Ac[24]=B;
-z11(Ac+25);
-w8(d+8,zc+1);}
+case 9:tc=hb+(i64)((u64)kb*48);
+if(*tc==46){
+uc=q4(tc+4);
+vc=q4(tc+8);
+wc=q4(tc+12);
+if(vc<wc){
+xc=fb*36;
+yc=rp(d)+xc;
+*yc=3;
+yc[1]=0;
+x2(yc+2,3);
+z32(yc+4);
+zc=rp(d)+(i64)xc;
+zc[36]=1;
+z3(zc+37);
+x4(zc+40,vc);
+x4(zc+44,wc);
+z24(zc+48);
+Ac=rp(d)+(i64)xc;
+Ac[72]=3;
+Ac[73]=0;
+x2(Ac+74,22);
+z32(Ac+76);
+Bc=fb+3;}
+else Bc=fb;
+Cc=rp(d)+Bc*36;
+x4(Cc,0);
+x4(Cc+4,uc);
+x4(Cc+8,7);
+x4(Cc+12,0);
+x4(Cc+16,0);
+x4(Cc+20,0);
+Cc[24]=oa;
+z11(Cc+25);
+w8(d+8,Bc+1);}
 break;
-case 11:fill_declared_c70(b,d,ib,A,r);
+case 11:fill_declared_c70(b,d,kb,B,s);
 break;
-default:fill_expand_aee(b,d,ib,A,r);
+default:fill_expand_aee(b,d,kb,B,s);
 break;}
 if(h){
-Bc=Sa-1;
-Cc=rp(d);
-Dc=r8(d+8);
-if(r8(f+80)>y){
-if(Dc<Bc||(((u32)1<<(z&31))&r4(rp(f+72)+(i64)((u64)y*12)+4))!=0)goto L15;}
+Dc=Va-1;
+Ec=rp(d);
+Fc=r8(d+8);
+if(r8(f+80)>z){
+if(Fc<Dc||(((u32)1<<(A&31))&r4(rp(f+72)+(i64)((u64)z*12)+4))!=0)goto L15;}
 else {
-if(Dc<Bc)goto L15;}
-look_df9(f+72,v,Cc+(i64)(Bc*36),usub64(Dc,Bc));}
+if(Fc<Dc)goto L15;}
+look_df9(f+72,w,Ec+(i64)(Dc*36),usub64(Fc,Dc));}
 L15:*a=0;
 x4(a+4,0);
 x4(a+8,0);
 goto L8;}
-Ra=3;
+Ua=3;
 L13:*a=1;
-x4(a+4,Ra);
+x4(a+4,Ua);
 x4(a+8,0);
 L8:return;
 }
@@ -41828,2287 +41836,2237 @@ return;
 /* sym_calls::filtering::filter_in */
 static void filter_in_b71(u8* a,u8* b,u32 c,u8* d,u64 e,u8* f,u64 g,u8* h)
 {
-u8 p[7],z[7],R[7],aa[7];
-A16 u8 i[1544],j[1544],k[1544],l[12],m[48],n[48],o[48],q[16],r[80],s[1656],t[24],u[40],v[12],w[48],x[48],y[48],A[16],B[80],C[1544],D[24],E[40],F[1544],G[1544],H[1544],I[8],J[12],K[1544],L[1544],M[1544],N[12],O[48],P[48],Q[48],S[16],T[80],U[1656],V[24],W[40],X[48],Y[48],Z[48],ba[16],ca[80],da[1544],ea[24],fa[40],ga[1544],ha[1544],ia[1544],ja[8],ka[12];
-u64 la,na,sa,ta,wa,xa,za,Aa,Ea,Ga,Ha,Ja,La,Ma,Pa,Ta,cb,db,eb,fb,jb,lb,mb,qb,tb,ub,vb,wb,xb,yb,Bb,Db,Eb,Gb,Hb,Ib,Lb,Mb,Nb,Pb,Qb,Rb,Sb,Tb,Ub,Wb,Xb,Yb,bc,ec,ic,jc,kc,mc,nc,oc,rc,sc,tc,uc,wc,xc,zc,Ac,Bc,Ec,Hc,Kc,Lc,Mc,Nc,Oc,Pc,Rc,Sc,Uc,Vc,Yc,Zc,bd,cd,gd,id,jd,ld,nd,od,sd,xd,Gd,Hd,Id,Jd,Nd,Pd,Qd,Ud,Xd,Yd,Zd,ae,be,ce,fe,he,ie,ke,le,me,pe,qe,re,te,ue,ve,we,xe,ye,Ae,Be,Ce,Fe,Ie,Je,Ke,Le,Me,Ne,Pe,Qe,Re,Ue,Ve,We,Ye,Ze,af,df,ef,ff,gf,jf,kf,mf,nf,of,rf,uf,xf,zf,Bf,Cf,Gf,If,Kf,Lf,Nf,Of,Pf,Qf,Rf,Sf,Vf,Xf,Zf,ag,cg,dg,fg,gg,jg,kg,mg,ng,rg,tg,ug,wg,yg,zg,Cg,Gg,Pg,Qg,Rg,Sg,Wg,Yg,Zg,dh,gh,hh,ih,jh,kh,lh,oh,qh,rh,th,uh,vh,yh,zh,Ah,Ch,Dh,Eh,Fh,Gh,Hh,Jh,Kh,Lh,Oh,Rh,Sh,Th,Uh,Vh,Wh,Yh,Zh,ai,di,ei,fi,hi,ii,ji,mi,ni,oi,pi,ri,si,ui,vi,wi,zi,Ci,Fi,Gi,Hi,Ii,Ji,Ki,Mi,Ni,Pi,Qi,Ti,Ui,Wi,Xi,bj,dj,ej,gj,ij,jj,mj,qj,zj,Aj,Bj,Cj,Gj,Ij,Jj,Nj,Qj,Rj,Sj,Tj,Uj,Vj,Yj,ak,bk,dk,ek,fk,ik,jk,kk,mk,nk,ok,pk,qk,rk,tk,uk,vk,yk,Bk,Ck,Dk,Ek,Fk,Gk,Ik,Jk,Kk,Nk,Ok,Pk,Rk,Sk,Tk,Wk,Xk,Yk,Zk,bl,cl,el,fl,gl,jl,ml,pl,rl,tl,ul,yl,Al,Cl,Dl,Fl,Gl,Hl,Il,Jl,Kl,Nl,Pl,Rl,Sl,Ul;
-u8 ma,oa,pa,qa,ra,ua,Ba,Fa,Ka,Na,Oa,Qa,Ra,Sa,Va,Wa,Xa,Ya,ab,bb,ob,pb,Ab,Fb,Ob,Vb,dc,gc,lc,yc,Dc,Fc,Gc,Ic,Wc,dd,hd,md,pd,qd,td,ud,vd,zd,Ad,Bd,Cd,Ed,Fd,Sd,Td,ee,je,se,ze,He,Oe,Xe,lf,qf,sf,tf,Df,hg,og,sg,xg,Ag,Bg,Dg,Eg,Fg,Ig,Jg,Kg,Lg,Ng,Og,bh,ch,nh,sh,Bh,Ih,Qh,Xh,gi,ti,yi,Ai,Bi,Di,Ri,Yi,cj,hj,kj,lj,nj,oj,pj,sj,tj,uj,vj,xj,yj,Lj,Mj,Xj,ck,lk,sk,Ak,Hk,Qk,dl,il,kl,ll,vl;
-u8 *va,*ya,*Ua,*gb,*kb,*Cb,*Jb,*Kb,*Zb,*cc,*hc,*pc,*qc,*vc,*Cc,*Jc,*Xc,*ad,*yd,*Kd,*Od,*ge,*ne,*oe,*De,*Ge,*Se,*Te,*bf,*cf,*hf,*pf,*vf,*wf,*yf,*Af,*Ef,*Ff,*Hf,*Jf,*Mf,*Tf,*Uf,*Wf,*Yf,*ig,*lg,*Hg,*Tg,*Xg,*ph,*wh,*xh,*Mh,*Ph,*bi,*ci,*ki,*li,*qi,*xi,*Ei,*Si,*Vi,*rj,*Dj,*Hj,*Zj,*gk,*hk,*wk,*zk,*Lk,*Mk,*Uk,*Vk,*al,*hl,*nl,*ol,*ql,*sl,*wl,*xl,*zl,*Bl,*El,*Ll,*Ml,*Ol,*Ql;
-u128 Ca,Da,Ia,zb,ac,ed,fd,kd,de,Ee,pg,qg,vg,mh,Nh,Zi,aj,fj,Wj,xk;
-s_8_8 Za,nb,fc,Dd,Rd,Mg,ah,wj,Kj;
-u16 hb,ib,sb,Ld,Md,Wd,Ug,Vg,fh,Ej,Fj,Pj;
-v16 rb,Vd,eh,Oj;
-u32 Qc,Tc,bg,eg,Li,Oi,Tl;
-la=q8(b);
-ma=la>>16;
-na=la>>32;
-oa=na;
-pa=la>>48;
-qa=la;
-ra=(la&65280)==0;
-if((u8)(na&1)){
-z12(ka);
-w4(ja,c);
-ja[4]=qa;
-z3(ja+5);
-if(ra){
-z64(da+1480);
-z24(ea);
-z40(fa);
+u8 o[7],y[7],P[7],Y[7];
+A16 u8 i[1544],j[1544],k[1544],l[48],m[48],n[48],p[16],q[80],r[1656],s[24],t[40],u[12],v[48],w[48],x[48],z[16],A[80],B[1544],C[24],D[40],E[1544],F[1544],G[1544],H[8],I[12],J[1544],K[1544],L[1544],M[48],N[48],O[48],Q[16],R[80],S[1656],T[24],U[40],V[48],W[48],X[48],Z[16],aa[80],ba[1544],ca[24],da[40],ea[1544],fa[1544],ga[1544],ha[8],ia[12];
+u64 ja,la,qa,ra,ua,va,xa,ya,Ca,Ea,Fa,Ha,Ja,Ka,Na,Ra,ab,bb,cb,db,hb,jb,kb,ob,rb,sb,tb,ub,vb,wb,zb,Bb,Cb,Eb,Fb,Gb,Jb,Kb,Lb,Nb,Ob,Pb,Qb,Rb,Sb,Ub,Vb,Wb,Zb,cc,gc,hc,ic,kc,lc,mc,pc,qc,rc,sc,uc,vc,xc,yc,zc,Cc,Fc,Ic,Jc,Kc,Lc,Mc,Nc,Pc,Qc,Sc,Tc,Wc,Xc,Zc,ad,ed,gd,hd,jd,ld,md,pd,ud,Ed,Fd,Gd,Hd,Ld,Nd,Od,Sd,Vd,Wd,Xd,Yd,Zd,ae,de,fe,ge,ie,je,ke,ne,oe,pe,re,se,te,ue,ve,we,ye,ze,Ae,De,Ge,Ke,Le,Me,Oe,Pe,Qe,Te,Ue,Ve,We,Ye,Ze,bf,cf,df,gf,kf,nf,pf,rf,sf,wf,yf,Af,Bf,Df,Ef,Ff,Gf,Hf,If,Lf,Nf,Pf,Qf,Sf,Tf,Vf,Wf,Zf,ag,cg,dg,hg,jg,kg,mg,og,pg,sg,wg,Fg,Gg,Hg,Ig,Mg,Og,Pg,Tg,Wg,Xg,Yg,Zg,ah,bh,eh,gh,hh,jh,kh,lh,oh,ph,qh,sh,th,uh,vh,wh,xh,zh,Ah,Bh,Eh,Hh,Ih,Jh,Kh,Lh,Mh,Oh,Ph,Qh,Th,Uh,Vh,Xh,Yh,Zh,ci,di,ei,fi,hi,ii,ki,li,mi,pi,si,vi,wi,xi,yi,zi,Ai,Ci,Di,Fi,Gi,Ji,Ki,Mi,Ni,Ri,Ti,Ui,Wi,Yi,Zi,cj,gj,pj,qj,rj,sj,wj,yj,zj,Dj,Gj,Hj,Ij,Jj,Kj,Lj,Oj,Qj,Rj,Tj,Uj,Vj,Yj,Zj,ak,ck,dk,ek,fk,gk,hk,jk,kk,lk,ok,rk,vk,wk,xk,zk,Ak,Bk,Ek,Fk,Gk,Hk,Jk,Kk,Mk,Nk,Ok,Rk,Uk,Xk,Zk,bl,cl,gl,il,kl,ll,nl,ol,pl,ql,rl,sl,vl,xl,zl,Al,Cl;
+u8 ka,ma,na,oa,pa,sa,za,Da,Ia,La,Ma,Oa,Pa,Qa,Ta,Ua,Va,Wa,Ya,Za,mb,nb,yb,Db,Mb,Tb,bc,ec,jc,wc,Bc,Dc,Ec,Gc,Uc,bd,fd,kd,nd,od,qd,sd,td,xd,yd,zd,Ad,Cd,Dd,Qd,Rd,ce,he,qe,xe,Fe,Ie,Ne,af,ff,hf,jf,tf,Xf,eg,ig,ng,qg,rg,tg,ug,vg,yg,zg,Ag,Bg,Dg,Eg,Rg,Sg,dh,ih,rh,yh,Gh,Nh,Wh,ji,oi,qi,ri,ti,Hi,Oi,Si,Xi,aj,bj,dj,ej,fj,ij,jj,kj,lj,nj,oj,Bj,Cj,Nj,Sj,bk,ik,qk,tk,yk,Lk,Qk,Sk,Tk,dl;
+u8 *ta,*wa,*Sa,*eb,*ib,*Ab,*Hb,*Ib,*Xb,*ac,*fc,*nc,*oc,*tc,*Ac,*Hc,*Vc,*Yc,*vd,*Id,*Md,*ee,*le,*me,*Be,*Ee,*Je,*Re,*Se,*Xe,*ef,*lf,*mf,*of,*qf,*uf,*vf,*xf,*zf,*Cf,*Jf,*Kf,*Mf,*Of,*Yf,*bg,*xg,*Jg,*Ng,*fh,*mh,*nh,*Ch,*Fh,*Rh,*Sh,*ai,*bi,*gi,*ni,*ui,*Ii,*Li,*hj,*tj,*xj,*Pj,*Wj,*Xj,*mk,*pk,*uk,*Ck,*Dk,*Ik,*Pk,*Vk,*Wk,*Yk,*al,*el,*fl,*hl,*jl,*ml,*tl,*ul,*wl,*yl;
+u128 Aa,Ba,Ga,xb,Yb,cd,dd,id,be,Ce,fg,gg,lg,ch,Dh,Pi,Qi,Vi,Mj,nk;
+s_8_8 Xa,lb,dc,Bd,Pd,He,Cg,Qg,mj,Aj,sk;
+u16 fb,gb,qb,Jd,Kd,Ud,Kg,Lg,Vg,uj,vj,Fj;
+v16 pb,Td,Ug,Ej;
+u32 Oc,Rc,Rf,Uf,Bi,Ei,Bl;
+ja=q8(b);
+ka=ja>>16;
+la=ja>>32;
+ma=la;
+na=ja>>48;
+oa=ja;
+pa=(ja&65280)==0;
+if((u8)(la&1)){
+z12(ia);
+w4(ha,c);
+ha[4]=oa;
+z3(ha+5);
+if(pa){
+z64(ba+1480);
+z24(ca);
+z40(da);
+zero_all(ea,1544);
+zero_all(fa,1544);
 zero_all(ga,1544);
-zero_all(ha,1544);
-zero_all(ia,1544);
-*ca=pa;
-z7(ca+1);
-wp(ca+8,(u8*)65536);
-z64(ca+16);
-sa=(u64)(u8*)65536;
+*aa=na;
+z7(aa+1);
+wp(aa+8,(u8*)65536);
+z64(aa+16);
+qa=(u64)(u8*)65536;
+wp(ba,(u8*)65536);
+z24(ba+8);
+wp(ba+32,(u8*)65536);
+z16(ba+40);
+wp(ba+56,(u8*)65536);
+z32(ba+64);
+wp(ba+96,(u8*)65536);
+z16(ba+104);
+wp(ba+120,(u8*)65536);
+z32(ba+128);
+wp(ba+160,(u8*)65536);
+z80(ba+168);
+wp(ba+248,(u8*)65536);
+z16(ba+256);
+wp(ba+272,(u8*)65536);
+z40(ba+280);
+wp(ba+320,(u8*)65536);
+z16(ba+328);
+wp(ba+344,(u8*)65536);
+z16(ba+352);
+wp(ba+368,(u8*)65536);
+z16(ba+376);
+wp(ba+392,(u8*)65536);
+z16(ba+400);
+wp(ba+416,(u8*)65536);
+z16(ba+424);
+wp(ba+440,(u8*)65536);
+z48(ba+448);
+wp(ba+496,(u8*)65536);
+z32(ba+504);
+wp(ba+536,(u8*)65536);
+z32(ba+544);
+wp(ba+576,(u8*)65536);
+z104(ba+584);
+w8(ba+688,qa);
+z40(ba+696);
+w8(ba+736,qa);
+z16(ba+744);
+wp(ba+760,(u8*)65536);
+z32(ba+768);
+wp(ba+800,(u8*)65536);
+z24(ba+808);
+wp(ba+832,(u8*)65536);
+z16(ba+840);
+wp(ba+856,(u8*)65536);
+z32(ba+864);
+wp(ba+896,(u8*)65536);
+z16(ba+904);
+wp(ba+920,(u8*)65536);
+z24(ba+928);
+wp(ba+952,(u8*)65536);
+z16(ba+960);
+wp(ba+976,(u8*)65536);
+z16(ba+984);
+wp(ba+1000,(u8*)65536);
+z40(ba+1008);
+wp(ba+1048,(u8*)65536);
+z16(ba+1056);
+wp(ba+1072,(u8*)65536);
+z16(ba+1080);
+wp(ba+1096,(u8*)65536);
+z16(ba+1104);
+wp(ba+1120,(u8*)65536);
+z16(ba+1128);
+wp(ba+1144,(u8*)65536);
+z16(ba+1152);
+wp(ba+1168,(u8*)65536);
+z48(ba+1176);
+wp(ba+1224,(u8*)65536);
+z32(ba+1232);
+wp(ba+1264,(u8*)65536);
+z40(ba+1272);
+wp(ba+1312,(u8*)65536);
+z32(ba+1320);
+wp(ba+1352,(u8*)65536);
+z16(ba+1360);
+wp(ba+1376,(u8*)65536);
+z48(ba+1384);
+w8(ba+1432,qa);
+z40(ba+1440);
+w8(ba+1480,qa);
+z16(ba+1488);
+wp(ba+1504,(u8*)65536);
+z32(ba+1512);
+wp(ca,(u8*)65536);
+z16(ca+8);
 wp(da,(u8*)65536);
-z24(da+8);
-wp(da+32,(u8*)65536);
-z16(da+40);
-wp(da+56,(u8*)65536);
-z32(da+64);
-wp(da+96,(u8*)65536);
-z16(da+104);
-wp(da+120,(u8*)65536);
-z32(da+128);
-wp(da+160,(u8*)65536);
-z80(da+168);
-wp(da+248,(u8*)65536);
-z16(da+256);
-wp(da+272,(u8*)65536);
-z40(da+280);
-wp(da+320,(u8*)65536);
-z16(da+328);
-wp(da+344,(u8*)65536);
-z16(da+352);
-wp(da+368,(u8*)65536);
-z16(da+376);
-wp(da+392,(u8*)65536);
-z16(da+400);
-wp(da+416,(u8*)65536);
-z16(da+424);
-wp(da+440,(u8*)65536);
-z48(da+448);
-wp(da+496,(u8*)65536);
-z32(da+504);
-wp(da+536,(u8*)65536);
-z32(da+544);
-wp(da+576,(u8*)65536);
-z104(da+584);
-w8(da+688,sa);
-z40(da+696);
-w8(da+736,sa);
-z16(da+744);
-wp(da+760,(u8*)65536);
-z32(da+768);
-wp(da+800,(u8*)65536);
-z24(da+808);
-wp(da+832,(u8*)65536);
-z16(da+840);
-wp(da+856,(u8*)65536);
-z32(da+864);
-wp(da+896,(u8*)65536);
-z16(da+904);
-wp(da+920,(u8*)65536);
-z24(da+928);
-wp(da+952,(u8*)65536);
-z16(da+960);
-wp(da+976,(u8*)65536);
-z16(da+984);
-wp(da+1000,(u8*)65536);
-z40(da+1008);
-wp(da+1048,(u8*)65536);
-z16(da+1056);
-wp(da+1072,(u8*)65536);
-z16(da+1080);
-wp(da+1096,(u8*)65536);
-z16(da+1104);
-wp(da+1120,(u8*)65536);
-z16(da+1128);
-wp(da+1144,(u8*)65536);
-z16(da+1152);
-wp(da+1168,(u8*)65536);
-z48(da+1176);
-wp(da+1224,(u8*)65536);
-z32(da+1232);
-wp(da+1264,(u8*)65536);
-z40(da+1272);
-wp(da+1312,(u8*)65536);
-z32(da+1320);
-wp(da+1352,(u8*)65536);
-z16(da+1360);
-wp(da+1376,(u8*)65536);
-z48(da+1384);
-w8(da+1432,sa);
-z40(da+1440);
-w8(da+1480,sa);
-z16(da+1488);
-wp(da+1504,(u8*)65536);
-z32(da+1512);
-wp(ea,(u8*)65536);
-z16(ea+8);
-wp(fa,(u8*)65536);
-z16(fa+8);
-w8(fa+24,g);
-w8(fa+32,0);
+z16(da+8);
+w8(da+24,g);
+w8(da+32,0);
 if(e!=0){
-ta=0;
-ua=0;
-L1:va=d+(i64)ta;
-z16(ba);
-first_segment_4a3(ba,*ca,va,e-ta,ua);
-wa=r8(ba);
-if(wa==0)goto L2;
-xa=0;
-L3:ya=va+(i64)xa;
-za=wa-xa;
-z48(Y);
-Aa=r8(ca+16);
-Ba=Aa==0;
-Ca=r16(ca+32);
-if(Ba&&Ca==0){
-if(ca[50]&1){
-pass_6c7(Y,ca,ya,za);
-Da=r16(Y);
-Ea=r8(Y+16);
-Fa=Y[24];
-Ga=r8(Y+32);
-Ha=r8(Y+40);
-memcpy(aa,Y+25,7);
+ra=0;
+sa=0;
+L1:ta=d+(i64)ra;
+z16(Z);
+first_segment_4a3(Z,*aa,ta,e-ra,sa);
+ua=r8(Z);
+if(ua==0)goto L2;
+va=0;
+L3:wa=ta+(i64)va;
+xa=ua-va;
+z48(W);
+ya=r8(aa+16);
+za=ya==0;
+Aa=r16(aa+32);
+if(za&&Aa==0){
+if(aa[50]&1){
+pass_6c7(W,aa,wa,xa);
+Ba=r16(W);
+Ca=r8(W+16);
+Da=W[24];
+Ea=r8(W+32);
+Fa=r8(W+40);
+memcpy(Y,W+25,7);
+Ga=Ba;
+Ha=Ca;
 Ia=Da;
 Ja=Ea;
 Ka=Fa;
-La=Ga;
-Ma=Ha;
 goto L4;}
-Na=*ca;
-Oa=ca[48];
-if(za==0)Pa=0;
+La=*aa;
+Ma=aa[48];
+if(xa==0)Na=0;
 else{
-Qa=ca[49];
-Ra=Na+49;
-Sa=Na==2;
-Ta=0;
-L5:Ua=ya+Ta;
-if(*Ua==95){
-if(Ta==0){
-switch(Oa){
-case 0:Va=Na;
+Oa=aa[49];
+Pa=La+49;
+Qa=La==2;
+Ra=0;
+L5:Sa=wa+Ra;
+if(*Sa==95){
+if(Ra==0){
+switch(Ma){
+case 0:Ta=La;
 goto L6;
-case 1:if(Sa){
-switch(Qa){
-case 46:case 36:Wa=1;
-Xa=49;
+case 1:if(Qa){
+switch(Oa){
+case 46:case 36:Ua=1;
+Va=49;
 goto L7;
 default:break;}}
 break;
-case 2:if(Sa){
-switch(Qa){
-case 46:case 36:Wa=1;
-Xa=49;
+case 2:if(Qa){
+switch(Oa){
+case 46:case 36:Ua=1;
+Va=49;
 goto L7;
 default:break;}}
 break;
 default:NEVER;
 }}
 else{
-Ya=*((u8*)t_e4d8+Ua[-1]);
-if(Ra>Ya){
-if(Ya<=(Na==0?48:49)){
-ab=0;
-bb=0;
-cb=Ta;
+Wa=*((u8*)t_e4d8+Sa[-1]);
+if(Pa>Wa){
+if(Wa<=(La==0?48:49)){
+Ya=0;
+Za=0;
+ab=Ra;
 goto L8;}
-Za=place_in_stretch_597(Na,ya,Ta,Oa);
-ab=Za.f1;
-bb=Za.f0;
-cb=Ta;
+Xa=place_in_stretch_597(La,wa,Ra,Ma);
+Ya=Xa.f1;
+Za=Xa.f0;
+ab=Ra;
 goto L8;}}}
-db=Ta+1;
-eb=za-db;
-if(eb<16)fb=0;
+bb=Ra+1;
+cb=xa-bb;
+if(cb<16)db=0;
 else{
-gb=ya+(i64)db;
-hb=cttz(v16_eq(v16_at(gb),splat(95)),16);
-if((eb<32)|(hb<16))fb=hb;
+eb=wa+(i64)bb;
+fb=cttz(v16_eq(v16_at(eb),splat(95)),16);
+if((cb<32)|(fb<16))db=fb;
 else{
-ib=cttz(v16_eq(v16_at(gb+16),splat(95)),16);
-if(ib<16)fb=ib|16;
+gb=cttz(v16_eq(v16_at(eb+16),splat(95)),16);
+if(gb<16)db=gb|16;
 else{
-if(eb<=95){
-fb=32;
+if(cb<=95){
+db=32;
 goto L9;}
-jb=32;
-L10:kb=gb+(i64)jb;
-if((((v16_eq(v16_at(kb),splat(95))|v16_eq(v16_at(kb+16),splat(95)))|v16_eq(v16_at(kb+32),splat(95)))|v16_eq(v16_at(kb+48),splat(95)))==0){
-lb=jb+64;
-if(eb-lb>63){
-jb=lb;
+hb=32;
+L10:ib=eb+(i64)hb;
+if((((v16_eq(v16_at(ib),splat(95))|v16_eq(v16_at(ib+16),splat(95)))|v16_eq(v16_at(ib+32),splat(95)))|v16_eq(v16_at(ib+48),splat(95)))==0){
+jb=hb+64;
+if(cb-jb>63){
+hb=jb;
 goto L10;}
-fb=lb;}
-else fb=jb;}}}
-L9:mb=fb+db;
-if(mb<za){
-Ta=mb;
+db=jb;}
+else db=hb;}}}
+L9:kb=db+bb;
+if(kb<xa){
+Ra=kb;
 goto L5;}
-Pa=mb;}
-if(*((u8*)t_e4d8+*(ya+(i64)Pa-1))>(Na==0?48:49)){
-nb=place_in_stretch_597(Na,ya,Pa,Oa);
-ob=nb.f0;
-pb=nb.f1;}
+Na=kb;}
+if(*((u8*)t_e4d8+*(wa+(i64)Na-1))>(La==0?48:49)){
+lb=place_in_stretch_597(La,wa,Na,Ma);
+mb=lb.f0;
+nb=lb.f1;}
 else{
-ob=0;
-pb=0;}
-if(Pa==0){
-Va=Na;
+mb=0;
+nb=0;}
+if(Na==0){
+Ta=La;
 goto L6;}
-ab=pb;
-bb=ob;
-cb=Pa;
-L8:w2(ca+48,(u16)((u32)ab<<8)|bb);
-z7(aa);
-Ia=0;
-Ja=cb;
-Ka=1;
-La=0;
-Ma=0;
+Ya=nb;
+Za=mb;
+ab=Na;
+L8:w2(aa+48,(u16)((u32)Ya<<8)|Za);
+z7(Y);
+Ga=0;
+Ha=ab;
+Ia=1;
+Ja=0;
+Ka=0;
 goto L4;}
-Va=*ca;
-L6:Wa=Va==2;
-Xa=Va==1?50:49;
-L7:if(Xa>*((u8*)t_e4d8+*ya))goto L11;
-qb=0;
-L12:if(za-qb>15){
-rb=v16_at(ya+qb);
-sb=cttz(v16_ne(rb,splat(36))&(v16_ne(rb,splat(46))&(v16_ne(rb,splat(95))&(v16_ult(v16_add(rb,splat(198)),splat(246))&v16_ult(v16_add(v16_or(rb,splat(32)),splat(133)),splat(230))))),16);
-tb=qb+sb;
-if(sb>=16){
-qb=tb;
+Ta=*aa;
+L6:Ua=Ta==2;
+Va=Ta==1?50:49;
+L7:if(Va>*((u8*)t_e4d8+*wa))goto L11;
+ob=0;
+L12:if(xa-ob>15){
+pb=v16_at(wa+ob);
+qb=cttz(v16_ne(pb,splat(36))&(v16_ne(pb,splat(46))&(v16_ne(pb,splat(95))&(v16_ult(v16_add(pb,splat(198)),splat(246))&v16_ult(v16_add(v16_or(pb,splat(32)),splat(133)),splat(230))))),16);
+rb=ob+qb;
+if(qb>=16){
+ob=rb;
 goto L12;}
-ub=tb;}
-else ub=qb;
-if(ub>=za){
-wb=ub;
+sb=rb;}
+else sb=ob;
+if(sb>=xa){
+ub=sb;
 goto L13;}
-vb=ub;
-L14:if(Xa>*((u8*)t_e4d8+*(ya+vb)))wb=vb;
+tb=sb;
+L14:if(Va>*((u8*)t_e4d8+*(wa+tb)))ub=tb;
 else{
-xb=vb+1;
-if(xb!=za){
-vb=xb;
+vb=tb+1;
+if(vb!=xa){
+tb=vb;
 goto L14;}
-wb=za;}
-L13:if(wb==0)goto L11;
-yb=wb;
-L15:if(yb==0){
-w16(ca+32,Ca+wb);
-zb=0;
-Ab=0;}
+ub=xa;}
+L13:if(ub==0)goto L11;
+wb=ub;
+L15:if(wb==0){
+w16(aa+32,Aa+ub);
+xb=0;
+yb=0;}
 else{
-Bb=yb-1;
-if(*(ya+Bb)==46){
-yb=Bb;
+zb=wb-1;
+if(*(wa+zb)==46){
+wb=zb;
 goto L15;}
-if(Ca+yb>65536-Aa){
-Cb=rp(ca+8);
-Db=r8(ea+16);
-Eb=r8(ea+8);
-if(Aa>Db-Eb){
-Fb=grow_amortized_2b6(ea,Aa);
-if(!Fb)goto L16;
-Gb=r8(ea+16);
-Hb=r8(ea+8);}
+if(Aa+wb>65536-ya){
+Ab=rp(aa+8);
+Bb=r8(ca+16);
+Cb=r8(ca+8);
+if(ya>Bb-Cb){
+Db=grow_amortized_2b6(ca,ya);
+if(!Db)goto L16;
+Eb=r8(ca+16);
+Fb=r8(ca+8);}
 else{
-Gb=Db;
-Hb=Eb;}
-Ib=Hb+Aa;
-Jb=rp(ea);
-z16(ea+8);
-Kb=Jb+(i64)Hb;
-if((u64)Kb-(u64)Cb<Aa){
-copy_bits_4f4(Cb,Kb,Aa);
-w8(ea+8,Ib);
-w8(ea+16,Gb);}
+Eb=Bb;
+Fb=Cb;}
+Gb=Fb+ya;
+Hb=rp(ca);
+z16(ca+8);
+Ib=Hb+(i64)Fb;
+if((u64)Ib-(u64)Ab<ya){
+copy_bits_4f4(Ab,Ib,ya);
+w8(ca+8,Gb);
+w8(ca+16,Eb);}
 else{
-memmove(Kb,Cb,Aa);
-w8(ea+8,Ib);
-w8(ea+16,Gb);
-if(Ba)goto L17;}
-w8(ca+16,0);
-L17:w16(ca+32,0);
-ca[50]=1;
-zb=Ca;
-Ab=1;}
+memmove(Ib,Ab,ya);
+w8(ca+8,Gb);
+w8(ca+16,Eb);
+if(za)goto L17;}
+w8(aa+16,0);
+L17:w16(aa+32,0);
+aa[50]=1;
+xb=Aa;
+yb=1;}
 else{
-Lb=Ca;
-Mb=Aa+Lb;
-if(Mb>Aa){
-Nb=r8(ca+24);
-if(Nb-Aa<Lb){
-Ob=grow_amortized_2b6(ca+8,Lb);
-if(!Ob)goto L16;
-Pb=r8(ca+16);
-Qb=Pb+Lb;
-Rb=r8(ca+24);
-Sb=Pb;}
+Jb=Aa;
+Kb=ya+Jb;
+if(Kb>ya){
+Lb=r8(aa+24);
+if(Lb-ya<Jb){
+Mb=grow_amortized_2b6(aa+8,Jb);
+if(!Mb)goto L16;
+Nb=r8(aa+16);
+Ob=Nb+Jb;
+Pb=r8(aa+24);
+Qb=Nb;}
 else{
-Qb=Mb;
-Rb=Nb;
-Sb=Aa;}
-if(Sb<Qb)memset(rp(ca+8)+(i64)Sb,46,Lb);
-w8(ca+16,Qb);
-w8(ca+24,Rb);
-Tb=Qb;}
+Ob=Kb;
+Pb=Lb;
+Qb=ya;}
+if(Qb<Ob)memset(rp(aa+8)+(i64)Qb,46,Jb);
+w8(aa+16,Ob);
+w8(aa+24,Pb);
+Rb=Ob;}
 else{
-if(Aa>Mb){
-w8(ca+16,Mb);
-Tb=Mb;}
-else Tb=Aa;}
-Ub=r8(ca+24);
-if(yb>Ub-Tb){
-Vb=grow_amortized_2b6(ca+8,yb);
-if(!Vb)goto L16;
-Wb=r8(ca+24);
-Xb=r8(ca+16);}
+if(ya>Kb){
+w8(aa+16,Kb);
+Rb=Kb;}
+else Rb=ya;}
+Sb=r8(aa+24);
+if(wb>Sb-Rb){
+Tb=grow_amortized_2b6(aa+8,wb);
+if(!Tb)goto L16;
+Ub=r8(aa+24);
+Vb=r8(aa+16);}
 else{
-Wb=Ub;
-Xb=Tb;}
-Yb=Xb+yb;
-Zb=rp(ca+8)+(i64)Xb;
-if((u64)Zb-(u64)ya<yb)copy_bits_4f4(ya,Zb,yb);
-else memmove(Zb,ya,yb);
-w8(ca+16,Yb);
-w8(ca+24,Wb);
-w16(ca+32,wb-yb);
-zb=0;
-Ab=0;}}
-z7(aa);
-Ia=zb;
-Ja=wb;
-Ka=Ab;
-La=0;
-Ma=0;
+Ub=Sb;
+Vb=Rb;}
+Wb=Vb+wb;
+Xb=rp(aa+8)+(i64)Vb;
+if((u64)Xb-(u64)wa<wb)copy_bits_4f4(wa,Xb,wb);
+else memmove(Xb,wa,wb);
+w8(aa+16,Wb);
+w8(aa+24,Ub);
+w16(aa+32,ub-wb);
+xb=0;
+yb=0;}}
+z7(Y);
+Ga=xb;
+Ha=ub;
+Ia=yb;
+Ja=0;
+Ka=0;
 goto L4;
-L11:z48(X);
-if(!Wa){
-cc=rp(ca+8);
-if(Aa-65537>=0xffffffffffff0001u){
-dc=*cc==95;
-if(Aa==2){
-if(!dc)goto L18;
-switch(cc[1]){
-case 90:ec=0;
+L11:z48(V);
+if(!Ua){
+ac=rp(aa+8);
+if(ya-65537>=0xffffffffffff0001u){
+bc=*ac==95;
+if(ya==2){
+if(!bc)goto L18;
+switch(ac[1]){
+case 90:cc=0;
 goto L19;
 case 82:break;
 default:goto L18;
 }}
 else{
-if(!dc)goto L18;
-switch(cc[1]){
-case 90:ec=0;
+if(!bc)goto L18;
+switch(ac[1]){
+case 90:cc=0;
 goto L19;
 case 82:break;
-case 95:switch(cc[2]){
-case 90:ec=0x100000000u;
+case 95:switch(ac[2]){
+case 90:cc=0x100000000u;
 goto L19;
-case 82:ec=0x100000001u;
+case 82:cc=0x100000001u;
 goto L19;
 default:goto L18;
 }
 break;
 default:goto L18;
 }}
-ec=1;
-L19:fc=push_text_0f0(ja,da,cc,Aa,ec,ec>>32,ea);
-if(fc.f0!=0)goto L20;
-gc=fc.f1&1;
-w8(ca+56,uadd64(r8(ca+56),1));
-hc=ca+(u64)(gc?64:72);
-w8(hc,uadd64(r8(hc),1));
-ic=gc?0:Aa;
+cc=1;
+L19:dc=push_text_0f0(ha,ba,ac,ya,cc,cc>>32,ca);
+if(dc.f0!=0)goto L20;
+ec=dc.f1&1;
+w8(aa+56,uadd64(r8(aa+56),1));
+fc=aa+(u64)(ec?64:72);
+w8(fc,uadd64(r8(fc),1));
+gc=ec?0:ya;
 goto L21;}
-L18:jc=r8(ea+16);
-kc=r8(ea+8);
-if(Aa>jc-kc){
-lc=grow_amortized_2b6(ea,Aa);
-if(!lc)goto L20;
-mc=r8(ea+16);
-nc=r8(ea+8);}
+L18:hc=r8(ca+16);
+ic=r8(ca+8);
+if(ya>hc-ic){
+jc=grow_amortized_2b6(ca,ya);
+if(!jc)goto L20;
+kc=r8(ca+16);
+lc=r8(ca+8);}
 else{
-mc=jc;
-nc=kc;}
-oc=nc+Aa;
-pc=rp(ea);
-z16(ea+8);
-qc=pc+(i64)nc;
-if((u64)qc-(u64)cc<Aa){
-copy_bits_4f4(cc,qc,Aa);
-w8(ea+8,oc);
-w8(ea+16,mc);
-ic=0;}
+kc=hc;
+lc=ic;}
+mc=lc+ya;
+nc=rp(ca);
+z16(ca+8);
+oc=nc+(i64)lc;
+if((u64)oc-(u64)ac<ya){
+copy_bits_4f4(ac,oc,ya);
+w8(ca+8,mc);
+w8(ca+16,kc);
+gc=0;}
 else{
-memmove(qc,cc,Aa);
-w8(ea+8,oc);
-w8(ea+16,mc);
-if(Ba){
-rc=0;
+memmove(oc,ac,ya);
+w8(ca+8,mc);
+w8(ca+16,kc);
+if(za){
+pc=0;
 goto L22;}
-ic=0;}
-L21:w8(ca+16,0);
-rc=ic;
-L22:z18(ca+32);
-ac=Ca;
-bc=rc;
+gc=0;}
+L21:w8(aa+16,0);
+pc=gc;
+L22:z18(aa+32);
+Yb=Aa;
+Zb=pc;
 goto L23;}
-end_within_ec4(X,ca,ja,da,ea);
-if(*X==0){
-ac=r16(X+16);
-bc=r8(X+32);
+end_within_ec4(V,aa,ha,ba,ca);
+if(*V==0){
+Yb=r16(V+16);
+Zb=r8(V+32);
 goto L23;}
 L20:goto L16;
-L23:z7(aa);
-Ia=ac;
-Ja=1;
-Ka=1;
-La=bc;
-Ma=0;
+L23:z7(Y);
+Ga=Yb;
+Ha=1;
+Ia=1;
+Ja=Zb;
+Ka=0;
 goto L4;
 L16:goto L24;
-L4:w16(Z,Ia);
-w8(Z+16,Ja);
-Z[24]=Ka;
-memcpy(Z+25,aa,7);
-w8(Z+32,La);
-w8(Z+40,Ma);
-sc=r8(ea+8);
-tc=r8(fa+32);
-if(tc<=(sc^18446744073709551615u)){
-uc=tc+sc;
-if(uc<=r8(fa+24)){
-vc=rp(ea);
-wc=r8(fa+16);
-xc=r8(fa+8);
-if(sc>wc-xc){
-yc=grow_amortized_2b6(fa,sc);
-if(!yc)goto L24;
-zc=r8(fa+16);
-Ac=r8(fa+8);}
+L4:w16(X,Ga);
+w8(X+16,Ha);
+X[24]=Ia;
+memcpy(X+25,Y,7);
+w8(X+32,Ja);
+w8(X+40,Ka);
+qc=r8(ca+8);
+rc=r8(da+32);
+if(rc<=(qc^18446744073709551615u)){
+sc=rc+qc;
+if(sc<=r8(da+24)){
+tc=rp(ca);
+uc=r8(da+16);
+vc=r8(da+8);
+if(qc>uc-vc){
+wc=grow_amortized_2b6(da,qc);
+if(!wc)goto L24;
+xc=r8(da+16);
+yc=r8(da+8);}
 else{
-zc=wc;
-Ac=xc;}
-Bc=Ac+sc;
-Cc=rp(fa)+(i64)Ac;
-if((u64)Cc-(u64)vc<sc)copy_bits_4f4(vc,Cc,sc);
-else memmove(Cc,vc,sc);
-w8(fa+8,Bc);
-w8(fa+16,zc);}
-w8(fa+32,uc);
-if(sc!=0)w8(ea+8,0);
-Dc=add_following_166(fa,Z,ya,Ja);
-if(!(Dc&1)){
-Ec=Ja+xa;
-if(Ec>=wa)goto L2;
-xa=Ec;
+xc=uc;
+yc=vc;}
+zc=yc+qc;
+Ac=rp(da)+(i64)yc;
+if((u64)Ac-(u64)tc<qc)copy_bits_4f4(tc,Ac,qc);
+else memmove(Ac,tc,qc);
+w8(da+8,zc);
+w8(da+16,xc);}
+w8(da+32,sc);
+if(qc!=0)w8(ca+8,0);
+Bc=add_following_166(da,X,wa,Ha);
+if(!(Bc&1)){
+Cc=Ha+va;
+if(Cc>=ua)goto L2;
+va=Cc;
 goto L3;}}
 L24:goto L25;
-L2:Fc=ba[9];
-if(ba[8]&1){
-Gc=end_segment_98e(ja,da,ca,ea,fa);
-if(Gc!=0)goto L25;}
-Hc=wa+ta;
-if(Hc>=e)goto L26;
-ta=Hc;
-ua=Fc;
+L2:Dc=Z[9];
+if(Z[8]&1){
+Ec=end_segment_98e(ha,ba,aa,ca,da);
+if(Ec!=0)goto L25;}
+Fc=ua+ra;
+if(Fc>=e)goto L26;
+ra=Fc;
+sa=Dc;
 goto L1;
-L25:if(r8(fa+16)!=0)port_rattle_dealloc(rp(fa));
-if(r8(ea+16)!=0)port_rattle_dealloc(rp(ea));
-memcpy(ga,da,1544);
-drop_1dd(ga);
-if(r8(ca+24)==0)goto L27;
+L25:if(r8(da+16)!=0)port_rattle_dealloc(rp(da));
+if(r8(ca+16)!=0)port_rattle_dealloc(rp(ca));
+memcpy(ea,ba,1544);
+drop_1dd(ea);
+if(r8(aa+24)==0)goto L27;
 goto L28;}
-L26:Ic=end_segment_98e(ja,da,ca,ea,fa);
-if(!(Ic&1)){
-Jc=rp(fa);
-Kc=r8(fa+8);
-Lc=r8(fa+16);
-Mc=r8(fa+32);
-Nc=r8(ca+56);
-Oc=r8(ca+64);
-Pc=r8(ca+72);
-if(r8(ea+16)!=0)port_rattle_dealloc(rp(ea));
-memcpy(ia,da,1544);
-drop_1dd(ia);
-if(r8(ca+24)!=0)port_rattle_dealloc(rp(ca+8));
-if(g<Mc){
-Qc=6;
-Rc=Mc;}
-else{
+L26:Gc=end_segment_98e(ha,ba,aa,ca,da);
+if(!(Gc&1)){
+Hc=rp(da);
+Ic=r8(da+8);
+Jc=r8(da+16);
+Kc=r8(da+32);
+Lc=r8(aa+56);
+Mc=r8(aa+64);
+Nc=r8(aa+72);
+if(r8(ca+16)!=0)port_rattle_dealloc(rp(ca));
+memcpy(ga,ba,1544);
+drop_1dd(ga);
+if(r8(aa+24)!=0)port_rattle_dealloc(rp(aa+8));
 if(g<Kc){
-Qc=6;
-Rc=Kc;}
+Oc=6;
+Pc=Kc;}
 else{
-if((u64)f-(u64)Jc<Kc)copy_bits_4f4(Jc,f,Kc);
-else memmove(f,Jc,Kc);
-w8(h,Nc);
-w8(h+8,Oc);
-w8(h+16,Pc);
-Qc=0;
-Rc=Kc;}}
-if(Lc==0){
-Sc=Rc;
-Tc=Qc;
-goto L29;}
-port_rattle_dealloc(Jc);
-Sc=Rc;
-Tc=Qc;
-goto L29;}
-if(r8(fa+16)!=0)port_rattle_dealloc(rp(fa));
-if(r8(ea+16)!=0)port_rattle_dealloc(rp(ea));
-memcpy(ha,da,1544);
-drop_1dd(ha);
-if(r8(ca+24)==0)goto L27;
-L28:port_rattle_dealloc(rp(ca+8));
-L27:Sc=0;
-Tc=5;}
+if(g<Ic){
+Oc=6;
+Pc=Ic;}
 else{
-w8(ka,r8(ja));
-ka[8]=ma&1;
-ka[9]=oa;
-zero_all(U+1512,144);
-z24(V);
-z40(W);
-*T=pa;
-z7(T+1);
-wp(T+8,(u8*)65536);
-z64(T+16);
-Uc=(u64)(u8*)65536;
+if((u64)f-(u64)Hc<Ic)copy_bits_4f4(Hc,f,Ic);
+else memmove(f,Hc,Ic);
+w8(h,Lc);
+w8(h+8,Mc);
+w8(h+16,Nc);
+Oc=0;
+Pc=Ic;}}
+if(Jc==0){
+Qc=Pc;
+Rc=Oc;
+goto L29;}
+port_rattle_dealloc(Hc);
+Qc=Pc;
+Rc=Oc;
+goto L29;}
+if(r8(da+16)!=0)port_rattle_dealloc(rp(da));
+if(r8(ca+16)!=0)port_rattle_dealloc(rp(ca));
+memcpy(fa,ba,1544);
+drop_1dd(fa);
+if(r8(aa+24)==0)goto L27;
+L28:port_rattle_dealloc(rp(aa+8));
+L27:Qc=0;
+Rc=5;}
+else{
+w8(ia,r8(ha));
+ia[8]=ka&1;
+ia[9]=ma;
+zero_all(S+1512,144);
+z24(T);
+z40(U);
+*R=na;
+z7(R+1);
+wp(R+8,(u8*)65536);
+z64(R+16);
+Sc=(u64)(u8*)65536;
+wp(S,(u8*)65536);
+z24(S+8);
+wp(S+32,(u8*)65536);
+z16(S+40);
+wp(S+56,(u8*)65536);
+z32(S+64);
+wp(S+96,(u8*)65536);
+z16(S+104);
+wp(S+120,(u8*)65536);
+z32(S+128);
+wp(S+160,(u8*)65536);
+z80(S+168);
+wp(S+248,(u8*)65536);
+z16(S+256);
+wp(S+272,(u8*)65536);
+z40(S+280);
+wp(S+320,(u8*)65536);
+z16(S+328);
+wp(S+344,(u8*)65536);
+z16(S+352);
+wp(S+368,(u8*)65536);
+z16(S+376);
+wp(S+392,(u8*)65536);
+z16(S+400);
+wp(S+416,(u8*)65536);
+z16(S+424);
+wp(S+440,(u8*)65536);
+z48(S+448);
+wp(S+496,(u8*)65536);
+z32(S+504);
+wp(S+536,(u8*)65536);
+z32(S+544);
+wp(S+576,(u8*)65536);
+z104(S+584);
+w8(S+688,Sc);
+z40(S+696);
+w8(S+736,Sc);
+z16(S+744);
+wp(S+760,(u8*)65536);
+z32(S+768);
+wp(S+800,(u8*)65536);
+z24(S+808);
+wp(S+832,(u8*)65536);
+z16(S+840);
+wp(S+856,(u8*)65536);
+z32(S+864);
+wp(S+896,(u8*)65536);
+z16(S+904);
+wp(S+920,(u8*)65536);
+z24(S+928);
+wp(S+952,(u8*)65536);
+z16(S+960);
+wp(S+976,(u8*)65536);
+z16(S+984);
+wp(S+1000,(u8*)65536);
+z40(S+1008);
+wp(S+1048,(u8*)65536);
+z16(S+1056);
+wp(S+1072,(u8*)65536);
+z16(S+1080);
+wp(S+1096,(u8*)65536);
+z16(S+1104);
+wp(S+1120,(u8*)65536);
+z16(S+1128);
+wp(S+1144,(u8*)65536);
+z16(S+1152);
+wp(S+1168,(u8*)65536);
+z48(S+1176);
+wp(S+1224,(u8*)65536);
+z32(S+1232);
+wp(S+1264,(u8*)65536);
+z40(S+1272);
+wp(S+1312,(u8*)65536);
+z32(S+1320);
+wp(S+1352,(u8*)65536);
+z16(S+1360);
+wp(S+1376,(u8*)65536);
+z48(S+1384);
+w8(S+1432,Sc);
+z40(S+1440);
+w8(S+1480,Sc);
+z16(S+1488);
+wp(S+1504,(u8*)65536);
+z32(S+1512);
+wp(S+1544,(u8*)65536);
+z32(S+1552);
+wp(S+1584,(u8*)65536);
+z16(S+1592);
+wp(S+1608,(u8*)65536);
+z16(S+1616);
+wp(S+1632,(u8*)65536);
+z16(S+1640);
+wp(T,(u8*)65536);
+z16(T+8);
 wp(U,(u8*)65536);
-z24(U+8);
-wp(U+32,(u8*)65536);
-z16(U+40);
-wp(U+56,(u8*)65536);
-z32(U+64);
-wp(U+96,(u8*)65536);
-z16(U+104);
-wp(U+120,(u8*)65536);
-z32(U+128);
-wp(U+160,(u8*)65536);
-z80(U+168);
-wp(U+248,(u8*)65536);
-z16(U+256);
-wp(U+272,(u8*)65536);
-z40(U+280);
-wp(U+320,(u8*)65536);
-z16(U+328);
-wp(U+344,(u8*)65536);
-z16(U+352);
-wp(U+368,(u8*)65536);
-z16(U+376);
-wp(U+392,(u8*)65536);
-z16(U+400);
-wp(U+416,(u8*)65536);
-z16(U+424);
-wp(U+440,(u8*)65536);
-z48(U+448);
-wp(U+496,(u8*)65536);
-z32(U+504);
-wp(U+536,(u8*)65536);
-z32(U+544);
-wp(U+576,(u8*)65536);
-z104(U+584);
-w8(U+688,Uc);
-z40(U+696);
-w8(U+736,Uc);
-z16(U+744);
-wp(U+760,(u8*)65536);
-z32(U+768);
-wp(U+800,(u8*)65536);
-z24(U+808);
-wp(U+832,(u8*)65536);
-z16(U+840);
-wp(U+856,(u8*)65536);
-z32(U+864);
-wp(U+896,(u8*)65536);
-z16(U+904);
-wp(U+920,(u8*)65536);
-z24(U+928);
-wp(U+952,(u8*)65536);
-z16(U+960);
-wp(U+976,(u8*)65536);
-z16(U+984);
-wp(U+1000,(u8*)65536);
-z40(U+1008);
-wp(U+1048,(u8*)65536);
-z16(U+1056);
-wp(U+1072,(u8*)65536);
-z16(U+1080);
-wp(U+1096,(u8*)65536);
-z16(U+1104);
-wp(U+1120,(u8*)65536);
-z16(U+1128);
-wp(U+1144,(u8*)65536);
-z16(U+1152);
-wp(U+1168,(u8*)65536);
-z48(U+1176);
-wp(U+1224,(u8*)65536);
-z32(U+1232);
-wp(U+1264,(u8*)65536);
-z40(U+1272);
-wp(U+1312,(u8*)65536);
-z32(U+1320);
-wp(U+1352,(u8*)65536);
-z16(U+1360);
-wp(U+1376,(u8*)65536);
-z48(U+1384);
-w8(U+1432,Uc);
-z40(U+1440);
-w8(U+1480,Uc);
-z16(U+1488);
-wp(U+1504,(u8*)65536);
-z32(U+1512);
-wp(U+1544,(u8*)65536);
-z32(U+1552);
-wp(U+1584,(u8*)65536);
-z16(U+1592);
-wp(U+1608,(u8*)65536);
-z16(U+1616);
-wp(U+1632,(u8*)65536);
-z16(U+1640);
-wp(V,(u8*)65536);
-z16(V+8);
-wp(W,(u8*)65536);
-z16(W+8);
-w8(W+24,g);
-w8(W+32,0);
+z16(U+8);
+w8(U+24,g);
+w8(U+32,0);
 if(e!=0){
-Vc=0;
-Wc=0;
-L30:Xc=d+(i64)Vc;
-z16(S);
-first_segment_4a3(S,*T,Xc,e-Vc,Wc);
-Yc=r8(S);
-z32(Q+16);
-if(Yc==0)goto L31;
-Zc=0;
-L32:ad=Xc+(i64)Zc;
-bd=Yc-Zc;
-z48(P);
-cd=r8(T+16);
-dd=cd==0;
-ed=r16(T+32);
-if(dd&&ed==0){
-if(T[50]&1){
-pass_6c7(P,T,ad,bd);
-fd=r16(P);
-gd=r8(P+16);
-hd=P[24];
-id=r8(P+32);
-jd=r8(P+40);
-memcpy(R,P+25,7);
+Tc=0;
+Uc=0;
+L30:Vc=d+(i64)Tc;
+z16(Q);
+first_segment_4a3(Q,*R,Vc,e-Tc,Uc);
+Wc=r8(Q);
+if(Wc==0)goto L31;
+Xc=0;
+L32:Yc=Vc+(i64)Xc;
+Zc=Wc-Xc;
+z48(N);
+ad=r8(R+16);
+bd=ad==0;
+cd=r16(R+32);
+if(bd&&cd==0){
+if(R[50]&1){
+pass_6c7(N,R,Yc,Zc);
+dd=r16(N);
+ed=r8(N+16);
+fd=N[24];
+gd=r8(N+32);
+hd=r8(N+40);
+memcpy(P,N+25,7);
+id=dd;
+jd=ed;
 kd=fd;
 ld=gd;
 md=hd;
-nd=id;
-od=jd;
 goto L33;}
-pd=*T;
-qd=T[48];
-if(bd==0)sd=0;
+nd=*R;
+od=R[48];
+if(Zc==0)pd=0;
 else{
-td=T[49];
-ud=pd+49;
-vd=pd==2;
-xd=0;
-L34:yd=ad+xd;
-if(*yd==95){
-if(xd==0){
-switch(qd){
-case 0:zd=pd;
+qd=R[49];
+sd=nd+49;
+td=nd==2;
+ud=0;
+L34:vd=Yc+ud;
+if(*vd==95){
+if(ud==0){
+switch(od){
+case 0:xd=nd;
 goto L35;
-case 1:if(vd){
-switch(td){
-case 46:case 36:Ad=1;
-Bd=49;
+case 1:if(td){
+switch(qd){
+case 46:case 36:yd=1;
+zd=49;
 goto L36;
 default:break;}}
 break;
-case 2:if(vd){
-switch(td){
-case 46:case 36:Ad=1;
-Bd=49;
+case 2:if(td){
+switch(qd){
+case 46:case 36:yd=1;
+zd=49;
 goto L36;
 default:break;}}
 break;
 default:NEVER;
 }}
 else{
-Cd=*((u8*)t_e4d8+yd[-1]);
-if(ud>Cd){
-if(Cd<=(pd==0?48:49)){
-Ed=0;
-Fd=0;
-Gd=xd;
+Ad=*((u8*)t_e4d8+vd[-1]);
+if(sd>Ad){
+if(Ad<=(nd==0?48:49)){
+Cd=0;
+Dd=0;
+Ed=ud;
 goto L37;}
-Dd=place_in_stretch_597(pd,ad,xd,qd);
-Ed=Dd.f1;
-Fd=Dd.f0;
-Gd=xd;
+Bd=place_in_stretch_597(nd,Yc,ud,od);
+Cd=Bd.f1;
+Dd=Bd.f0;
+Ed=ud;
 goto L37;}}}
-Hd=xd+1;
-Id=bd-Hd;
-if(Id<16)Jd=0;
+Fd=ud+1;
+Gd=Zc-Fd;
+if(Gd<16)Hd=0;
 else{
-Kd=ad+(i64)Hd;
-Ld=cttz(v16_eq(v16_at(Kd),splat(95)),16);
-if((Id<32)|(Ld<16))Jd=Ld;
+Id=Yc+(i64)Fd;
+Jd=cttz(v16_eq(v16_at(Id),splat(95)),16);
+if((Gd<32)|(Jd<16))Hd=Jd;
 else{
-Md=cttz(v16_eq(v16_at(Kd+16),splat(95)),16);
-if(Md<16)Jd=Md|16;
+Kd=cttz(v16_eq(v16_at(Id+16),splat(95)),16);
+if(Kd<16)Hd=Kd|16;
 else{
-if(Id<=95){
-Jd=32;
+if(Gd<=95){
+Hd=32;
 goto L38;}
-Nd=32;
-L39:Od=Kd+(i64)Nd;
-if((((v16_eq(v16_at(Od),splat(95))|v16_eq(v16_at(Od+16),splat(95)))|v16_eq(v16_at(Od+32),splat(95)))|v16_eq(v16_at(Od+48),splat(95)))==0){
-Pd=Nd+64;
-if(Id-Pd>63){
-Nd=Pd;
+Ld=32;
+L39:Md=Id+(i64)Ld;
+if((((v16_eq(v16_at(Md),splat(95))|v16_eq(v16_at(Md+16),splat(95)))|v16_eq(v16_at(Md+32),splat(95)))|v16_eq(v16_at(Md+48),splat(95)))==0){
+Nd=Ld+64;
+if(Gd-Nd>63){
+Ld=Nd;
 goto L39;}
-Jd=Pd;}
-else Jd=Nd;}}}
-L38:Qd=Jd+Hd;
-if(Qd<bd){
-xd=Qd;
+Hd=Nd;}
+else Hd=Ld;}}}
+L38:Od=Hd+Fd;
+if(Od<Zc){
+ud=Od;
 goto L34;}
-sd=Qd;}
-if(*((u8*)t_e4d8+*(ad+(i64)sd-1))>(pd==0?48:49)){
-Rd=place_in_stretch_597(pd,ad,sd,qd);
-Sd=Rd.f0;
-Td=Rd.f1;}
+pd=Od;}
+if(*((u8*)t_e4d8+*(Yc+(i64)pd-1))>(nd==0?48:49)){
+Pd=place_in_stretch_597(nd,Yc,pd,od);
+Qd=Pd.f0;
+Rd=Pd.f1;}
 else{
-Sd=0;
-Td=0;}
-if(sd==0){
-zd=pd;
+Qd=0;
+Rd=0;}
+if(pd==0){
+xd=nd;
 goto L35;}
-Ed=Td;
-Fd=Sd;
-Gd=sd;
-L37:w2(T+48,(u16)((u32)Ed<<8)|Fd);
-z7(R);
-kd=0;
-ld=Gd;
-md=1;
-nd=0;
-od=0;
+Cd=Rd;
+Dd=Qd;
+Ed=pd;
+L37:w2(R+48,(u16)((u32)Cd<<8)|Dd);
+z7(P);
+id=0;
+jd=Ed;
+kd=1;
+ld=0;
+md=0;
 goto L33;}
-zd=*T;
-L35:Ad=zd==2;
-Bd=zd==1?50:49;
-L36:if(Bd>*((u8*)t_e4d8+*ad))goto L40;
-Ud=0;
-L41:if(bd-Ud>15){
-Vd=v16_at(ad+Ud);
-Wd=cttz(v16_ne(Vd,splat(36))&(v16_ne(Vd,splat(46))&(v16_ne(Vd,splat(95))&(v16_ult(v16_add(Vd,splat(198)),splat(246))&v16_ult(v16_add(v16_or(Vd,splat(32)),splat(133)),splat(230))))),16);
-Xd=Ud+Wd;
-if(Wd>=16){
-Ud=Xd;
+xd=*R;
+L35:yd=xd==2;
+zd=xd==1?50:49;
+L36:if(zd>*((u8*)t_e4d8+*Yc))goto L40;
+Sd=0;
+L41:if(Zc-Sd>15){
+Td=v16_at(Yc+Sd);
+Ud=cttz(v16_ne(Td,splat(36))&(v16_ne(Td,splat(46))&(v16_ne(Td,splat(95))&(v16_ult(v16_add(Td,splat(198)),splat(246))&v16_ult(v16_add(v16_or(Td,splat(32)),splat(133)),splat(230))))),16);
+Vd=Sd+Ud;
+if(Ud>=16){
+Sd=Vd;
 goto L41;}
-Yd=Xd;}
-else Yd=Ud;
-if(Yd>=bd){
-ae=Yd;
+Wd=Vd;}
+else Wd=Sd;
+if(Wd>=Zc){
+Yd=Wd;
 goto L42;}
-Zd=Yd;
-L43:if(Bd>*((u8*)t_e4d8+*(ad+Zd)))ae=Zd;
+Xd=Wd;
+L43:if(zd>*((u8*)t_e4d8+*(Yc+Xd)))Yd=Xd;
 else{
-be=Zd+1;
-if(be!=bd){
-Zd=be;
+Zd=Xd+1;
+if(Zd!=Zc){
+Xd=Zd;
 goto L43;}
-ae=bd;}
-L42:if(ae==0)goto L40;
-ce=ae;
-L44:if(ce==0){
-w16(T+32,ed+ae);
-de=0;
-ee=0;}
+Yd=Zc;}
+L42:if(Yd==0)goto L40;
+ae=Yd;
+L44:if(ae==0){
+w16(R+32,cd+Yd);
+be=0;
+ce=0;}
 else{
-fe=ce-1;
-if(*(ad+fe)==46){
-ce=fe;
+de=ae-1;
+if(*(Yc+de)==46){
+ae=de;
 goto L44;}
-if(ed+ce>65536-cd){
-ge=rp(T+8);
-he=r8(V+16);
-ie=r8(V+8);
-if(cd>he-ie){
-je=grow_amortized_2b6(V,cd);
-if(!je)goto L45;
-ke=r8(V+16);
-le=r8(V+8);}
+if(cd+ae>65536-ad){
+ee=rp(R+8);
+fe=r8(T+16);
+ge=r8(T+8);
+if(ad>fe-ge){
+he=grow_amortized_2b6(T,ad);
+if(!he)goto L45;
+ie=r8(T+16);
+je=r8(T+8);}
 else{
-ke=he;
-le=ie;}
-me=le+cd;
-ne=rp(V);
-z16(V+8);
-oe=ne+(i64)le;
-if((u64)oe-(u64)ge<cd){
-copy_bits_4f4(ge,oe,cd);
-w8(V+8,me);
-w8(V+16,ke);}
+ie=fe;
+je=ge;}
+ke=je+ad;
+le=rp(T);
+z16(T+8);
+me=le+(i64)je;
+if((u64)me-(u64)ee<ad){
+copy_bits_4f4(ee,me,ad);
+w8(T+8,ke);
+w8(T+16,ie);}
 else{
-memmove(oe,ge,cd);
-w8(V+8,me);
-w8(V+16,ke);
-if(dd)goto L46;}
-w8(T+16,0);
-L46:w16(T+32,0);
-T[50]=1;
-de=ed;
-ee=1;}
+memmove(me,ee,ad);
+w8(T+8,ke);
+w8(T+16,ie);
+if(bd)goto L46;}
+w8(R+16,0);
+L46:w16(R+32,0);
+R[50]=1;
+be=cd;
+ce=1;}
 else{
-pe=ed;
-qe=cd+pe;
-if(qe>cd){
-re=r8(T+24);
-if(re-cd<pe){
-se=grow_amortized_2b6(T+8,pe);
-if(!se)goto L45;
-te=r8(T+16);
-ue=te+pe;
-ve=r8(T+24);
-we=te;}
+ne=cd;
+oe=ad+ne;
+if(oe>ad){
+pe=r8(R+24);
+if(pe-ad<ne){
+qe=grow_amortized_2b6(R+8,ne);
+if(!qe)goto L45;
+re=r8(R+16);
+se=re+ne;
+te=r8(R+24);
+ue=re;}
 else{
-ue=qe;
-ve=re;
-we=cd;}
-if(we<ue)memset(rp(T+8)+(i64)we,46,pe);
-w8(T+16,ue);
-w8(T+24,ve);
-xe=ue;}
+se=oe;
+te=pe;
+ue=ad;}
+if(ue<se)memset(rp(R+8)+(i64)ue,46,ne);
+w8(R+16,se);
+w8(R+24,te);
+ve=se;}
 else{
-if(cd>qe){
-w8(T+16,qe);
-xe=qe;}
-else xe=cd;}
-ye=r8(T+24);
-if(ce>ye-xe){
-ze=grow_amortized_2b6(T+8,ce);
-if(!ze)goto L45;
-Ae=r8(T+24);
-Be=r8(T+16);}
+if(ad>oe){
+w8(R+16,oe);
+ve=oe;}
+else ve=ad;}
+we=r8(R+24);
+if(ae>we-ve){
+xe=grow_amortized_2b6(R+8,ae);
+if(!xe)goto L45;
+ye=r8(R+24);
+ze=r8(R+16);}
 else{
-Ae=ye;
-Be=xe;}
-Ce=Be+ce;
-De=rp(T+8)+(i64)Be;
-if((u64)De-(u64)ad<ce)copy_bits_4f4(ad,De,ce);
-else memmove(De,ad,ce);
-w8(T+16,Ce);
-w8(T+24,Ae);
-w16(T+32,ae-ce);
-de=0;
-ee=0;}}
-z7(R);
-kd=de;
-ld=ae;
-md=ee;
-nd=0;
-od=0;
+ye=we;
+ze=ve;}
+Ae=ze+ae;
+Be=rp(R+8)+(i64)ze;
+if((u64)Be-(u64)Yc<ae)copy_bits_4f4(Yc,Be,ae);
+else memmove(Be,Yc,ae);
+w8(R+16,Ae);
+w8(R+24,ye);
+w16(R+32,Yd-ae);
+be=0;
+ce=0;}}
+z7(P);
+id=be;
+jd=Yd;
+kd=ce;
+ld=0;
+md=0;
 goto L33;
-L40:z48(O);
-if(!Ad){
-Ge=rp(T+8);
-if(cd-65537>=0xffffffffffff0001u){
-He=*Ge==95;
-if(cd==2){
-if(!He)goto L47;
-switch(Ge[1]){
-case 90:Ie=0;
+L40:z48(M);
+if(!yd){
+Ee=rp(R+8);
+if(ad-65537>=0xffffffffffff0001u){
+Fe=*Ee==95;
+if(ad==2){
+if(!Fe)goto L47;
+switch(Ee[1]){
+case 90:Ge=0;
 goto L48;
 case 82:break;
 default:goto L47;
 }}
 else{
-if(!He)goto L47;
-switch(Ge[1]){
-case 90:Ie=0;
+if(!Fe)goto L47;
+switch(Ee[1]){
+case 90:Ge=0;
 goto L48;
 case 82:break;
-case 95:switch(Ge[2]){
-case 90:Ie=0x100000000u;
+case 95:switch(Ee[2]){
+case 90:Ge=0x100000000u;
 goto L48;
-case 82:Ie=0x100000001u;
+case 82:Ge=0x100000001u;
 goto L48;
 default:goto L47;
 }
 break;
 default:goto L47;
 }}
-Ie=1;
-L48:Je=Ie>>32;
-z12(N);
-append_d61(N,ka,U,Ie,Ge+(i64)Je,cd-Je,V);
-if(*N!=0){
-if(N[4]!=4){
-Me=r8(V+16);
-Ne=r8(V+8);
-if(cd>Me-Ne){
-Oe=grow_amortized_2b6(V,cd);
-if(!Oe)goto L49;
-Pe=r8(V+16);
-Qe=r8(V+8);}
-else{
-Pe=Me;
-Qe=Ne;}
-Re=Qe+cd;
-Se=rp(V)+(i64)Qe;
-if((u64)Se-(u64)Ge<cd)copy_bits_4f4(Ge,Se,cd);
-else memmove(Se,Ge,cd);
-w8(V+8,Re);
-w8(V+16,Pe);
-Ke=cd;
-Le=16;
+Ge=1;
+L48:He=push_text_2e9(ia,S,Ee,ad,Ge,Ge>>32,T);
+if(He.f0!=0)goto L49;
+Ie=He.f1&1;
+w8(R+56,uadd64(r8(R+56),1));
+Je=R+(u64)(Ie?64:72);
+w8(Je,uadd64(r8(Je),1));
+Ke=Ie?0:ad;
 goto L50;}
-L49:goto L51;}
-Ke=0;
-Le=8;
-L50:w8(T+56,uadd64(r8(T+56),1));
-Te=T+56+(i64)Le;
-w8(Te,uadd64(r8(Te),1));
-Ue=Ke;
+L47:Le=r8(T+16);
+Me=r8(T+8);
+if(ad>Le-Me){
+Ne=grow_amortized_2b6(T,ad);
+if(!Ne)goto L49;
+Oe=r8(T+16);
+Pe=r8(T+8);}
+else{
+Oe=Le;
+Pe=Me;}
+Qe=Pe+ad;
+Re=rp(T);
+z16(T+8);
+Se=Re+(i64)Pe;
+if((u64)Se-(u64)Ee<ad){
+copy_bits_4f4(Ee,Se,ad);
+w8(T+8,Qe);
+w8(T+16,Oe);
+Ke=0;}
+else{
+memmove(Se,Ee,ad);
+w8(T+8,Qe);
+w8(T+16,Oe);
+if(bd){
+Te=0;
+goto L51;}
+Ke=0;}
+L50:w8(R+16,0);
+Te=Ke;
+L51:z18(R+32);
+Ce=cd;
+De=Te;
 goto L52;}
-L47:Ve=r8(V+16);
-We=r8(V+8);
-if(cd>Ve-We){
-Xe=grow_amortized_2b6(V,cd);
-if(!Xe)goto L51;
-Ye=r8(V+16);
-Ze=r8(V+8);}
-else{
-Ye=Ve;
-Ze=We;}
-af=Ze+cd;
-bf=rp(V);
-z16(V+8);
-cf=bf+(i64)Ze;
-if((u64)cf-(u64)Ge<cd){
-copy_bits_4f4(Ge,cf,cd);
-w8(V+8,af);
-w8(V+16,Ye);
-Ue=0;}
-else{
-memmove(cf,Ge,cd);
-w8(V+8,af);
-w8(V+16,Ye);
-if(dd){
-df=0;
-goto L53;}
-Ue=0;}
-L52:w8(T+16,0);
-df=Ue;
-L53:z18(T+32);
-Ee=ed;
-Fe=df;
-goto L54;}
-end_within_916(O,T,ka,U,V);
-if(*O==0){
-Ee=r16(O+16);
-Fe=r8(O+32);
-goto L54;}
-L51:goto L45;
-L54:z7(R);
-kd=Ee;
-ld=1;
-md=1;
-nd=Fe;
-od=0;
+end_within_916(M,R,ia,S,T);
+if(*M==0){
+Ce=r16(M+16);
+De=r8(M+32);
+goto L52;}
+L49:goto L45;
+L52:z7(P);
+id=Ce;
+jd=1;
+kd=1;
+ld=De;
+md=0;
 goto L33;
-L45:goto L55;
-L33:w16(Q,kd);
-w8(Q+16,ld);
-Q[24]=md;
-memcpy(Q+25,R,7);
-w8(Q+32,nd);
-w8(Q+40,od);
-ef=r8(V+8);
-ff=r8(W+32);
-if(ff<=(ef^18446744073709551615u)){
-gf=ff+ef;
-if(gf<=r8(W+24)){
-hf=rp(V);
-jf=r8(W+16);
-kf=r8(W+8);
-if(ef>jf-kf){
-lf=grow_amortized_2b6(W,ef);
-if(!lf)goto L55;
-mf=r8(W+16);
-nf=r8(W+8);}
+L45:goto L53;
+L33:w16(O,id);
+w8(O+16,jd);
+O[24]=kd;
+memcpy(O+25,P,7);
+w8(O+32,ld);
+w8(O+40,md);
+Ue=r8(T+8);
+Ve=r8(U+32);
+if(Ve<=(Ue^18446744073709551615u)){
+We=Ve+Ue;
+if(We<=r8(U+24)){
+Xe=rp(T);
+Ye=r8(U+16);
+Ze=r8(U+8);
+if(Ue>Ye-Ze){
+af=grow_amortized_2b6(U,Ue);
+if(!af)goto L53;
+bf=r8(U+16);
+cf=r8(U+8);}
 else{
-mf=jf;
-nf=kf;}
-of=nf+ef;
-pf=rp(W)+(i64)nf;
-if((u64)pf-(u64)hf<ef)copy_bits_4f4(hf,pf,ef);
-else memmove(pf,hf,ef);
-w8(W+8,of);
-w8(W+16,mf);}
-w8(W+32,gf);
-if(ef!=0)w8(V+8,0);
-qf=add_following_166(W,Q,ad,ld);
-if(!(qf&1)){
-rf=ld+Zc;
-if(rf>=Yc)goto L31;
-Zc=rf;
+bf=Ye;
+cf=Ze;}
+df=cf+Ue;
+ef=rp(U)+(i64)cf;
+if((u64)ef-(u64)Xe<Ue)copy_bits_4f4(Xe,ef,Ue);
+else memmove(ef,Xe,Ue);
+w8(U+8,df);
+w8(U+16,bf);}
+w8(U+32,We);
+if(Ue!=0)w8(T+8,0);
+ff=add_following_166(U,O,Yc,jd);
+if(!(ff&1)){
+gf=jd+Xc;
+if(gf>=Wc)goto L31;
+Xc=gf;
 goto L32;}}
-L55:goto L56;
-L31:sf=S[9];
-if(S[8]&1){
-tf=end_segment_337(ka,U,T,V,W);
-if(tf!=0)goto L56;}
-uf=Yc+Vc;
-if(uf>=e)goto L57;
-Vc=uf;
-Wc=sf;
+L53:goto L54;
+L31:hf=Q[9];
+if(Q[8]&1){
+jf=end_segment_337(ia,S,R,T,U);
+if(jf!=0)goto L54;}
+kf=Wc+Tc;
+if(kf>=e)goto L55;
+Tc=kf;
+Uc=hf;
 goto L30;
-L56:if(r8(W+16)!=0)port_rattle_dealloc(rp(W));
-if(r8(V+16)!=0)port_rattle_dealloc(rp(V));
-vf=rp(U+1544);
-wf=rp(U+1584);
-xf=r8(U+1600);
-yf=rp(U+1608);
-zf=r8(U+1624);
-Af=rp(U+1632);
-Bf=r8(U+1648);
-Cf=r8(U+1560);
-memcpy(M,U,1544);
-drop_1dd(M);
-if(Cf!=0)port_rattle_dealloc(vf);
-if(xf!=0)port_rattle_dealloc(wf);
-if(zf!=0)port_rattle_dealloc(yf);
-if(Bf!=0)port_rattle_dealloc(Af);
-if(r8(T+24)==0)goto L58;
-goto L59;}
-L57:Df=end_segment_337(ka,U,T,V,W);
-if(!(Df&1)){
-Mf=rp(W);
-Nf=r8(W+8);
-Of=r8(W+16);
-Pf=r8(W+32);
-Qf=r8(T+56);
-Rf=r8(T+64);
-Sf=r8(T+72);
-if(r8(V+16)!=0)port_rattle_dealloc(rp(V));
-Tf=rp(U+1544);
-Uf=rp(U+1584);
-Vf=r8(U+1600);
-Wf=rp(U+1608);
-Xf=r8(U+1624);
-Yf=rp(U+1632);
-Zf=r8(U+1648);
-ag=r8(U+1560);
-memcpy(L,U,1544);
+L54:if(r8(U+16)!=0)port_rattle_dealloc(rp(U));
+if(r8(T+16)!=0)port_rattle_dealloc(rp(T));
+lf=rp(S+1544);
+mf=rp(S+1584);
+nf=r8(S+1600);
+of=rp(S+1608);
+pf=r8(S+1624);
+qf=rp(S+1632);
+rf=r8(S+1648);
+sf=r8(S+1560);
+memcpy(L,S,1544);
 drop_1dd(L);
-if(ag!=0)port_rattle_dealloc(Tf);
-if(Vf!=0)port_rattle_dealloc(Uf);
-if(Xf!=0)port_rattle_dealloc(Wf);
-if(Zf!=0)port_rattle_dealloc(Yf);
-if(r8(T+24)!=0)port_rattle_dealloc(rp(T+8));
-if(g<Pf){
-bg=6;
-cg=Pf;}
-else{
-if(g<Nf){
-bg=6;
-cg=Nf;}
-else{
-if((u64)f-(u64)Mf<Nf)copy_bits_4f4(Mf,f,Nf);
-else memmove(f,Mf,Nf);
-w8(h,Qf);
-w8(h+8,Rf);
-w8(h+16,Sf);
-bg=0;
-cg=Nf;}}
-if(Of==0){
-Sc=cg;
-Tc=bg;
-goto L29;}
-port_rattle_dealloc(Mf);
-Sc=cg;
-Tc=bg;
-goto L29;}
-if(r8(W+16)!=0)port_rattle_dealloc(rp(W));
-if(r8(V+16)!=0)port_rattle_dealloc(rp(V));
-Ef=rp(U+1544);
-Ff=rp(U+1584);
-Gf=r8(U+1600);
-Hf=rp(U+1608);
-If=r8(U+1624);
-Jf=rp(U+1632);
-Kf=r8(U+1648);
-Lf=r8(U+1560);
-memcpy(K,U,1544);
+if(sf!=0)port_rattle_dealloc(lf);
+if(nf!=0)port_rattle_dealloc(mf);
+if(pf!=0)port_rattle_dealloc(of);
+if(rf!=0)port_rattle_dealloc(qf);
+if(r8(R+24)==0)goto L56;
+goto L57;}
+L55:tf=end_segment_337(ia,S,R,T,U);
+if(!(tf&1)){
+Cf=rp(U);
+Df=r8(U+8);
+Ef=r8(U+16);
+Ff=r8(U+32);
+Gf=r8(R+56);
+Hf=r8(R+64);
+If=r8(R+72);
+if(r8(T+16)!=0)port_rattle_dealloc(rp(T));
+Jf=rp(S+1544);
+Kf=rp(S+1584);
+Lf=r8(S+1600);
+Mf=rp(S+1608);
+Nf=r8(S+1624);
+Of=rp(S+1632);
+Pf=r8(S+1648);
+Qf=r8(S+1560);
+memcpy(K,S,1544);
 drop_1dd(K);
-if(Lf!=0)port_rattle_dealloc(Ef);
-if(Gf!=0)port_rattle_dealloc(Ff);
-if(If!=0)port_rattle_dealloc(Hf);
-if(Kf!=0)port_rattle_dealloc(Jf);
-if(r8(T+24)==0)goto L58;
-L59:port_rattle_dealloc(rp(T+8));
-L58:Sc=0;
-Tc=5;}
-L29:dg=Sc;
-eg=Tc;}
+if(Qf!=0)port_rattle_dealloc(Jf);
+if(Lf!=0)port_rattle_dealloc(Kf);
+if(Nf!=0)port_rattle_dealloc(Mf);
+if(Pf!=0)port_rattle_dealloc(Of);
+if(r8(R+24)!=0)port_rattle_dealloc(rp(R+8));
+if(g<Ff){
+Rf=6;
+Sf=Ff;}
 else{
-z12(J);
-w4(I,c);
-I[4]=qa;
-z3(I+5);
-if(ra){
-z64(C+1480);
-z24(D);
-z40(E);
+if(g<Df){
+Rf=6;
+Sf=Df;}
+else{
+if((u64)f-(u64)Cf<Df)copy_bits_4f4(Cf,f,Df);
+else memmove(f,Cf,Df);
+w8(h,Gf);
+w8(h+8,Hf);
+w8(h+16,If);
+Rf=0;
+Sf=Df;}}
+if(Ef==0){
+Qc=Sf;
+Rc=Rf;
+goto L29;}
+port_rattle_dealloc(Cf);
+Qc=Sf;
+Rc=Rf;
+goto L29;}
+if(r8(U+16)!=0)port_rattle_dealloc(rp(U));
+if(r8(T+16)!=0)port_rattle_dealloc(rp(T));
+uf=rp(S+1544);
+vf=rp(S+1584);
+wf=r8(S+1600);
+xf=rp(S+1608);
+yf=r8(S+1624);
+zf=rp(S+1632);
+Af=r8(S+1648);
+Bf=r8(S+1560);
+memcpy(J,S,1544);
+drop_1dd(J);
+if(Bf!=0)port_rattle_dealloc(uf);
+if(wf!=0)port_rattle_dealloc(vf);
+if(yf!=0)port_rattle_dealloc(xf);
+if(Af!=0)port_rattle_dealloc(zf);
+if(r8(R+24)==0)goto L56;
+L57:port_rattle_dealloc(rp(R+8));
+L56:Qc=0;
+Rc=5;}
+L29:Tf=Qc;
+Uf=Rc;}
+else{
+z12(I);
+w4(H,c);
+H[4]=oa;
+z3(H+5);
+if(pa){
+z64(B+1480);
+z24(C);
+z40(D);
+zero_all(E,1544);
 zero_all(F,1544);
 zero_all(G,1544);
-zero_all(H,1544);
-*B=pa;
-z7(B+1);
-wp(B+8,(u8*)65536);
-z64(B+16);
-fg=(u64)(u8*)65536;
+*A=na;
+z7(A+1);
+wp(A+8,(u8*)65536);
+z64(A+16);
+Vf=(u64)(u8*)65536;
+wp(B,(u8*)65536);
+z24(B+8);
+wp(B+32,(u8*)65536);
+z16(B+40);
+wp(B+56,(u8*)65536);
+z32(B+64);
+wp(B+96,(u8*)65536);
+z16(B+104);
+wp(B+120,(u8*)65536);
+z32(B+128);
+wp(B+160,(u8*)65536);
+z80(B+168);
+wp(B+248,(u8*)65536);
+z16(B+256);
+wp(B+272,(u8*)65536);
+z40(B+280);
+wp(B+320,(u8*)65536);
+z16(B+328);
+wp(B+344,(u8*)65536);
+z16(B+352);
+wp(B+368,(u8*)65536);
+z16(B+376);
+wp(B+392,(u8*)65536);
+z16(B+400);
+wp(B+416,(u8*)65536);
+z16(B+424);
+wp(B+440,(u8*)65536);
+z48(B+448);
+wp(B+496,(u8*)65536);
+z32(B+504);
+wp(B+536,(u8*)65536);
+z32(B+544);
+wp(B+576,(u8*)65536);
+z104(B+584);
+w8(B+688,Vf);
+z40(B+696);
+w8(B+736,Vf);
+z16(B+744);
+wp(B+760,(u8*)65536);
+z32(B+768);
+wp(B+800,(u8*)65536);
+z24(B+808);
+wp(B+832,(u8*)65536);
+z16(B+840);
+wp(B+856,(u8*)65536);
+z32(B+864);
+wp(B+896,(u8*)65536);
+z16(B+904);
+wp(B+920,(u8*)65536);
+z24(B+928);
+wp(B+952,(u8*)65536);
+z16(B+960);
+wp(B+976,(u8*)65536);
+z16(B+984);
+wp(B+1000,(u8*)65536);
+z40(B+1008);
+wp(B+1048,(u8*)65536);
+z16(B+1056);
+wp(B+1072,(u8*)65536);
+z16(B+1080);
+wp(B+1096,(u8*)65536);
+z16(B+1104);
+wp(B+1120,(u8*)65536);
+z16(B+1128);
+wp(B+1144,(u8*)65536);
+z16(B+1152);
+wp(B+1168,(u8*)65536);
+z48(B+1176);
+wp(B+1224,(u8*)65536);
+z32(B+1232);
+wp(B+1264,(u8*)65536);
+z40(B+1272);
+wp(B+1312,(u8*)65536);
+z32(B+1320);
+wp(B+1352,(u8*)65536);
+z16(B+1360);
+wp(B+1376,(u8*)65536);
+z48(B+1384);
+w8(B+1432,Vf);
+z40(B+1440);
+w8(B+1480,Vf);
+z16(B+1488);
+wp(B+1504,(u8*)65536);
+z32(B+1512);
 wp(C,(u8*)65536);
-z24(C+8);
-wp(C+32,(u8*)65536);
-z16(C+40);
-wp(C+56,(u8*)65536);
-z32(C+64);
-wp(C+96,(u8*)65536);
-z16(C+104);
-wp(C+120,(u8*)65536);
-z32(C+128);
-wp(C+160,(u8*)65536);
-z80(C+168);
-wp(C+248,(u8*)65536);
-z16(C+256);
-wp(C+272,(u8*)65536);
-z40(C+280);
-wp(C+320,(u8*)65536);
-z16(C+328);
-wp(C+344,(u8*)65536);
-z16(C+352);
-wp(C+368,(u8*)65536);
-z16(C+376);
-wp(C+392,(u8*)65536);
-z16(C+400);
-wp(C+416,(u8*)65536);
-z16(C+424);
-wp(C+440,(u8*)65536);
-z48(C+448);
-wp(C+496,(u8*)65536);
-z32(C+504);
-wp(C+536,(u8*)65536);
-z32(C+544);
-wp(C+576,(u8*)65536);
-z104(C+584);
-w8(C+688,fg);
-z40(C+696);
-w8(C+736,fg);
-z16(C+744);
-wp(C+760,(u8*)65536);
-z32(C+768);
-wp(C+800,(u8*)65536);
-z24(C+808);
-wp(C+832,(u8*)65536);
-z16(C+840);
-wp(C+856,(u8*)65536);
-z32(C+864);
-wp(C+896,(u8*)65536);
-z16(C+904);
-wp(C+920,(u8*)65536);
-z24(C+928);
-wp(C+952,(u8*)65536);
-z16(C+960);
-wp(C+976,(u8*)65536);
-z16(C+984);
-wp(C+1000,(u8*)65536);
-z40(C+1008);
-wp(C+1048,(u8*)65536);
-z16(C+1056);
-wp(C+1072,(u8*)65536);
-z16(C+1080);
-wp(C+1096,(u8*)65536);
-z16(C+1104);
-wp(C+1120,(u8*)65536);
-z16(C+1128);
-wp(C+1144,(u8*)65536);
-z16(C+1152);
-wp(C+1168,(u8*)65536);
-z48(C+1176);
-wp(C+1224,(u8*)65536);
-z32(C+1232);
-wp(C+1264,(u8*)65536);
-z40(C+1272);
-wp(C+1312,(u8*)65536);
-z32(C+1320);
-wp(C+1352,(u8*)65536);
-z16(C+1360);
-wp(C+1376,(u8*)65536);
-z48(C+1384);
-w8(C+1432,fg);
-z40(C+1440);
-w8(C+1480,fg);
-z16(C+1488);
-wp(C+1504,(u8*)65536);
-z32(C+1512);
+z16(C+8);
 wp(D,(u8*)65536);
 z16(D+8);
-wp(E,(u8*)65536);
-z16(E+8);
-w8(E+24,g);
-w8(E+32,0);
+w8(D+24,g);
+w8(D+32,0);
 if(e!=0){
-gg=0;
-hg=0;
-L60:ig=d+(i64)gg;
-z16(A);
-first_segment_4a3(A,*B,ig,e-gg,hg);
-jg=r8(A);
-z32(y+16);
-if(jg==0)goto L61;
-kg=0;
-L62:lg=ig+(i64)kg;
-mg=jg-kg;
-z48(x);
-ng=r8(B+16);
-og=ng==0;
-pg=r16(B+32);
-if(og&&pg==0){
-if(B[50]&1){
-pass_6c7(x,B,lg,mg);
-qg=r16(x);
-rg=r8(x+16);
-sg=x[24];
-tg=r8(x+32);
-ug=r8(x+40);
-memcpy(z,x+25,7);
-vg=qg;
-wg=rg;
-xg=sg;
-yg=tg;
-zg=ug;
-goto L63;}
-Ag=*B;
-Bg=B[48];
-if(mg==0)Cg=0;
+Wf=0;
+Xf=0;
+L58:Yf=d+(i64)Wf;
+z16(z);
+first_segment_4a3(z,*A,Yf,e-Wf,Xf);
+Zf=r8(z);
+z32(x+16);
+if(Zf==0)goto L59;
+ag=0;
+L60:bg=Yf+(i64)ag;
+cg=Zf-ag;
+z48(w);
+dg=r8(A+16);
+eg=dg==0;
+fg=r16(A+32);
+if(eg&&fg==0){
+if(A[50]&1){
+pass_6c7(w,A,bg,cg);
+gg=r16(w);
+hg=r8(w+16);
+ig=w[24];
+jg=r8(w+32);
+kg=r8(w+40);
+memcpy(y,w+25,7);
+lg=gg;
+mg=hg;
+ng=ig;
+og=jg;
+pg=kg;
+goto L61;}
+qg=*A;
+rg=A[48];
+if(cg==0)sg=0;
 else{
-Dg=B[49];
-Eg=Ag+49;
-Fg=Ag==2;
-Gg=0;
-L64:Hg=lg+Gg;
-if(*Hg==95){
-if(Gg==0){
-switch(Bg){
-case 0:Ig=Ag;
-goto L65;
-case 1:if(Fg){
-switch(Dg){
-case 46:case 36:Jg=1;
-Kg=49;
-goto L66;
+tg=A[49];
+ug=qg+49;
+vg=qg==2;
+wg=0;
+L62:xg=bg+wg;
+if(*xg==95){
+if(wg==0){
+switch(rg){
+case 0:yg=qg;
+goto L63;
+case 1:if(vg){
+switch(tg){
+case 46:case 36:zg=1;
+Ag=49;
+goto L64;
 default:break;}}
 break;
-case 2:if(Fg){
-switch(Dg){
-case 46:case 36:Jg=1;
-Kg=49;
-goto L66;
+case 2:if(vg){
+switch(tg){
+case 46:case 36:zg=1;
+Ag=49;
+goto L64;
 default:break;}}
 break;
 default:NEVER;
 }}
 else{
-Lg=*((u8*)t_e4d8+Hg[-1]);
-if(Eg>Lg){
-if(Lg<=(Ag==0?48:49)){
-Ng=0;
-Og=0;
-Pg=Gg;
-goto L67;}
-Mg=place_in_stretch_597(Ag,lg,Gg,Bg);
-Ng=Mg.f1;
-Og=Mg.f0;
-Pg=Gg;
-goto L67;}}}
-Qg=Gg+1;
-Rg=mg-Qg;
-if(Rg<16)Sg=0;
-else{
-Tg=lg+(i64)Qg;
-Ug=cttz(v16_eq(v16_at(Tg),splat(95)),16);
-if((Rg<32)|(Ug<16))Sg=Ug;
-else{
-Vg=cttz(v16_eq(v16_at(Tg+16),splat(95)),16);
-if(Vg<16)Sg=Vg|16;
-else{
-if(Rg<=95){
-Sg=32;
-goto L68;}
-Wg=32;
-L69:Xg=Tg+(i64)Wg;
-if((((v16_eq(v16_at(Xg),splat(95))|v16_eq(v16_at(Xg+16),splat(95)))|v16_eq(v16_at(Xg+32),splat(95)))|v16_eq(v16_at(Xg+48),splat(95)))==0){
-Yg=Wg+64;
-if(Rg-Yg>63){
-Wg=Yg;
-goto L69;}
-Sg=Yg;}
-else Sg=Wg;}}}
-L68:Zg=Sg+Qg;
-if(Zg<mg){
-Gg=Zg;
-goto L64;}
-Cg=Zg;}
-if(*((u8*)t_e4d8+*(lg+(i64)Cg-1))>(Ag==0?48:49)){
-ah=place_in_stretch_597(Ag,lg,Cg,Bg);
-bh=ah.f0;
-ch=ah.f1;}
-else{
-bh=0;
-ch=0;}
-if(Cg==0){
-Ig=Ag;
+Bg=*((u8*)t_e4d8+xg[-1]);
+if(ug>Bg){
+if(Bg<=(qg==0?48:49)){
+Dg=0;
+Eg=0;
+Fg=wg;
 goto L65;}
-Ng=ch;
-Og=bh;
-Pg=Cg;
-L67:w2(B+48,(u16)((u32)Ng<<8)|Og);
-z7(z);
-vg=0;
+Cg=place_in_stretch_597(qg,bg,wg,rg);
+Dg=Cg.f1;
+Eg=Cg.f0;
+Fg=wg;
+goto L65;}}}
+Gg=wg+1;
+Hg=cg-Gg;
+if(Hg<16)Ig=0;
+else{
+Jg=bg+(i64)Gg;
+Kg=cttz(v16_eq(v16_at(Jg),splat(95)),16);
+if((Hg<32)|(Kg<16))Ig=Kg;
+else{
+Lg=cttz(v16_eq(v16_at(Jg+16),splat(95)),16);
+if(Lg<16)Ig=Lg|16;
+else{
+if(Hg<=95){
+Ig=32;
+goto L66;}
+Mg=32;
+L67:Ng=Jg+(i64)Mg;
+if((((v16_eq(v16_at(Ng),splat(95))|v16_eq(v16_at(Ng+16),splat(95)))|v16_eq(v16_at(Ng+32),splat(95)))|v16_eq(v16_at(Ng+48),splat(95)))==0){
+Og=Mg+64;
+if(Hg-Og>63){
+Mg=Og;
+goto L67;}
+Ig=Og;}
+else Ig=Mg;}}}
+L66:Pg=Ig+Gg;
+if(Pg<cg){
 wg=Pg;
-xg=1;
-yg=0;
-zg=0;
+goto L62;}
+sg=Pg;}
+if(*((u8*)t_e4d8+*(bg+(i64)sg-1))>(qg==0?48:49)){
+Qg=place_in_stretch_597(qg,bg,sg,rg);
+Rg=Qg.f0;
+Sg=Qg.f1;}
+else{
+Rg=0;
+Sg=0;}
+if(sg==0){
+yg=qg;
 goto L63;}
-Ig=*B;
-L65:Jg=Ig==2;
-Kg=Ig==1?50:49;
-L66:if(Kg>*((u8*)t_e4d8+*lg))goto L70;
-dh=0;
-L71:if(mg-dh>15){
-eh=v16_at(lg+dh);
-fh=cttz(v16_ne(eh,splat(36))&(v16_ne(eh,splat(46))&(v16_ne(eh,splat(95))&(v16_ult(v16_add(eh,splat(198)),splat(246))&v16_ult(v16_add(v16_or(eh,splat(32)),splat(133)),splat(230))))),16);
-gh=dh+fh;
-if(fh>=16){
-dh=gh;
+Dg=Sg;
+Eg=Rg;
+Fg=sg;
+L65:w2(A+48,(u16)((u32)Dg<<8)|Eg);
+z7(y);
+lg=0;
+mg=Fg;
+ng=1;
+og=0;
+pg=0;
+goto L61;}
+yg=*A;
+L63:zg=yg==2;
+Ag=yg==1?50:49;
+L64:if(Ag>*((u8*)t_e4d8+*bg))goto L68;
+Tg=0;
+L69:if(cg-Tg>15){
+Ug=v16_at(bg+Tg);
+Vg=cttz(v16_ne(Ug,splat(36))&(v16_ne(Ug,splat(46))&(v16_ne(Ug,splat(95))&(v16_ult(v16_add(Ug,splat(198)),splat(246))&v16_ult(v16_add(v16_or(Ug,splat(32)),splat(133)),splat(230))))),16);
+Wg=Tg+Vg;
+if(Vg>=16){
+Tg=Wg;
+goto L69;}
+Xg=Wg;}
+else Xg=Tg;
+if(Xg>=cg){
+Zg=Xg;
+goto L70;}
+Yg=Xg;
+L71:if(Ag>*((u8*)t_e4d8+*(bg+Yg)))Zg=Yg;
+else{
+ah=Yg+1;
+if(ah!=cg){
+Yg=ah;
 goto L71;}
-hh=gh;}
-else hh=dh;
-if(hh>=mg){
-jh=hh;
+Zg=cg;}
+L70:if(Zg==0)goto L68;
+bh=Zg;
+L72:if(bh==0){
+w16(A+32,fg+Zg);
+ch=0;
+dh=0;}
+else{
+eh=bh-1;
+if(*(bg+eh)==46){
+bh=eh;
 goto L72;}
-ih=hh;
-L73:if(Kg>*((u8*)t_e4d8+*(lg+ih)))jh=ih;
+if(fg+bh>65536-dg){
+fh=rp(A+8);
+gh=r8(C+16);
+hh=r8(C+8);
+if(dg>gh-hh){
+ih=grow_amortized_2b6(C,dg);
+if(!ih)goto L73;
+jh=r8(C+16);
+kh=r8(C+8);}
 else{
-kh=ih+1;
-if(kh!=mg){
-ih=kh;
-goto L73;}
-jh=mg;}
-L72:if(jh==0)goto L70;
-lh=jh;
-L74:if(lh==0){
-w16(B+32,pg+jh);
-mh=0;
-nh=0;}
+jh=gh;
+kh=hh;}
+lh=kh+dg;
+mh=rp(C);
+z16(C+8);
+nh=mh+(i64)kh;
+if((u64)nh-(u64)fh<dg){
+copy_bits_4f4(fh,nh,dg);
+w8(C+8,lh);
+w8(C+16,jh);}
 else{
-oh=lh-1;
-if(*(lg+oh)==46){
-lh=oh;
-goto L74;}
-if(pg+lh>65536-ng){
-ph=rp(B+8);
-qh=r8(D+16);
-rh=r8(D+8);
-if(ng>qh-rh){
-sh=grow_amortized_2b6(D,ng);
-if(!sh)goto L75;
-th=r8(D+16);
-uh=r8(D+8);}
+memmove(nh,fh,dg);
+w8(C+8,lh);
+w8(C+16,jh);
+if(eg)goto L74;}
+w8(A+16,0);
+L74:w16(A+32,0);
+A[50]=1;
+ch=fg;
+dh=1;}
 else{
-th=qh;
-uh=rh;}
-vh=uh+ng;
-wh=rp(D);
-z16(D+8);
-xh=wh+(i64)uh;
-if((u64)xh-(u64)ph<ng){
-copy_bits_4f4(ph,xh,ng);
-w8(D+8,vh);
-w8(D+16,th);}
+oh=fg;
+ph=dg+oh;
+if(ph>dg){
+qh=r8(A+24);
+if(qh-dg<oh){
+rh=grow_amortized_2b6(A+8,oh);
+if(!rh)goto L73;
+sh=r8(A+16);
+th=sh+oh;
+uh=r8(A+24);
+vh=sh;}
 else{
-memmove(xh,ph,ng);
-w8(D+8,vh);
-w8(D+16,th);
-if(og)goto L76;}
-w8(B+16,0);
-L76:w16(B+32,0);
-B[50]=1;
-mh=pg;
-nh=1;}
+th=ph;
+uh=qh;
+vh=dg;}
+if(vh<th)memset(rp(A+8)+(i64)vh,46,oh);
+w8(A+16,th);
+w8(A+24,uh);
+wh=th;}
 else{
-yh=pg;
-zh=ng+yh;
-if(zh>ng){
-Ah=r8(B+24);
-if(Ah-ng<yh){
-Bh=grow_amortized_2b6(B+8,yh);
-if(!Bh)goto L75;
-Ch=r8(B+16);
-Dh=Ch+yh;
-Eh=r8(B+24);
-Fh=Ch;}
+if(dg>ph){
+w8(A+16,ph);
+wh=ph;}
+else wh=dg;}
+xh=r8(A+24);
+if(bh>xh-wh){
+yh=grow_amortized_2b6(A+8,bh);
+if(!yh)goto L73;
+zh=r8(A+24);
+Ah=r8(A+16);}
 else{
-Dh=zh;
-Eh=Ah;
-Fh=ng;}
-if(Fh<Dh)memset(rp(B+8)+(i64)Fh,46,yh);
-w8(B+16,Dh);
-w8(B+24,Eh);
-Gh=Dh;}
-else{
-if(ng>zh){
-w8(B+16,zh);
-Gh=zh;}
-else Gh=ng;}
-Hh=r8(B+24);
-if(lh>Hh-Gh){
-Ih=grow_amortized_2b6(B+8,lh);
-if(!Ih)goto L75;
-Jh=r8(B+24);
-Kh=r8(B+16);}
-else{
-Jh=Hh;
-Kh=Gh;}
-Lh=Kh+lh;
-Mh=rp(B+8)+(i64)Kh;
-if((u64)Mh-(u64)lg<lh)copy_bits_4f4(lg,Mh,lh);
-else memmove(Mh,lg,lh);
-w8(B+16,Lh);
-w8(B+24,Jh);
-w16(B+32,jh-lh);
-mh=0;
-nh=0;}}
-z7(z);
-vg=mh;
-wg=jh;
-xg=nh;
-yg=0;
-zg=0;
-goto L63;
-L70:z48(w);
-if(!Jg){
-Ph=rp(B+8);
-if(ng-65537>=0xffffffffffff0001u){
-Qh=*Ph==95;
-if(ng==2){
-if(!Qh)goto L77;
-switch(Ph[1]){
-case 90:Rh=0;
-goto L78;
+zh=xh;
+Ah=wh;}
+Bh=Ah+bh;
+Ch=rp(A+8)+(i64)Ah;
+if((u64)Ch-(u64)bg<bh)copy_bits_4f4(bg,Ch,bh);
+else memmove(Ch,bg,bh);
+w8(A+16,Bh);
+w8(A+24,zh);
+w16(A+32,Zg-bh);
+ch=0;
+dh=0;}}
+z7(y);
+lg=ch;
+mg=Zg;
+ng=dh;
+og=0;
+pg=0;
+goto L61;
+L68:z48(v);
+if(!zg){
+Fh=rp(A+8);
+if(dg-65537>=0xffffffffffff0001u){
+Gh=*Fh==95;
+if(dg==2){
+if(!Gh)goto L75;
+switch(Fh[1]){
+case 90:Hh=0;
+goto L76;
 case 82:break;
-default:goto L77;
+default:goto L75;
 }}
 else{
-if(!Qh)goto L77;
-switch(Ph[1]){
-case 90:Rh=0;
-goto L78;
+if(!Gh)goto L75;
+switch(Fh[1]){
+case 90:Hh=0;
+goto L76;
 case 82:break;
-case 95:switch(Ph[2]){
-case 90:Rh=0x100000000u;
-goto L78;
-case 82:Rh=0x100000001u;
-goto L78;
-default:goto L77;
+case 95:switch(Fh[2]){
+case 90:Hh=0x100000000u;
+goto L76;
+case 82:Hh=0x100000001u;
+goto L76;
+default:goto L75;
 }
 break;
-default:goto L77;
+default:goto L75;
 }}
-Rh=1;
-L78:Sh=Rh>>32;
-z12(v);
-append_a0b(v,I,C,Rh,Ph+(i64)Sh,ng-Sh,D);
-if(*v!=0){
-if(v[4]!=4){
-Vh=r8(D+16);
-Wh=r8(D+8);
-if(ng>Vh-Wh){
-Xh=grow_amortized_2b6(D,ng);
-if(!Xh)goto L79;
-Yh=r8(D+16);
-Zh=r8(D+8);}
+Hh=1;
+L76:Ih=Hh>>32;
+z12(u);
+append_a0b(u,H,B,Hh,Fh+(i64)Ih,dg-Ih,C);
+if(*u!=0){
+if(u[4]!=4){
+Lh=r8(C+16);
+Mh=r8(C+8);
+if(dg>Lh-Mh){
+Nh=grow_amortized_2b6(C,dg);
+if(!Nh)goto L77;
+Oh=r8(C+16);
+Ph=r8(C+8);}
 else{
-Yh=Vh;
-Zh=Wh;}
-ai=Zh+ng;
-bi=rp(D)+(i64)Zh;
-if((u64)bi-(u64)Ph<ng)copy_bits_4f4(Ph,bi,ng);
-else memmove(bi,Ph,ng);
-w8(D+8,ai);
-w8(D+16,Yh);
-Th=ng;
-Uh=16;
+Oh=Lh;
+Ph=Mh;}
+Qh=Ph+dg;
+Rh=rp(C)+(i64)Ph;
+if((u64)Rh-(u64)Fh<dg)copy_bits_4f4(Fh,Rh,dg);
+else memmove(Rh,Fh,dg);
+w8(C+8,Qh);
+w8(C+16,Oh);
+Jh=dg;
+Kh=16;
+goto L78;}
+L77:goto L79;}
+Jh=0;
+Kh=8;
+L78:w8(A+56,uadd64(r8(A+56),1));
+Sh=A+56+(i64)Kh;
+w8(Sh,uadd64(r8(Sh),1));
+Th=Jh;
 goto L80;}
-L79:goto L81;}
-Th=0;
-Uh=8;
-L80:w8(B+56,uadd64(r8(B+56),1));
-ci=B+56+(i64)Uh;
-w8(ci,uadd64(r8(ci),1));
-di=Th;
+L75:Uh=r8(C+16);
+Vh=r8(C+8);
+if(dg>Uh-Vh){
+Wh=grow_amortized_2b6(C,dg);
+if(!Wh)goto L79;
+Xh=r8(C+16);
+Yh=r8(C+8);}
+else{
+Xh=Uh;
+Yh=Vh;}
+Zh=Yh+dg;
+ai=rp(C);
+z16(C+8);
+bi=ai+(i64)Yh;
+if((u64)bi-(u64)Fh<dg){
+copy_bits_4f4(Fh,bi,dg);
+w8(C+8,Zh);
+w8(C+16,Xh);
+Th=0;}
+else{
+memmove(bi,Fh,dg);
+w8(C+8,Zh);
+w8(C+16,Xh);
+if(eg){
+ci=0;
+goto L81;}
+Th=0;}
+L80:w8(A+16,0);
+ci=Th;
+L81:z18(A+32);
+Dh=fg;
+Eh=ci;
 goto L82;}
-L77:ei=r8(D+16);
-fi=r8(D+8);
-if(ng>ei-fi){
-gi=grow_amortized_2b6(D,ng);
-if(!gi)goto L81;
+end_within_4fe(v,A,H,B,C);
+if(*v==0){
+Dh=r16(v+16);
+Eh=r8(v+32);
+goto L82;}
+L79:goto L73;
+L82:z7(y);
+lg=Dh;
+mg=1;
+ng=1;
+og=Eh;
+pg=0;
+goto L61;
+L73:goto L83;
+L61:w16(x,lg);
+w8(x+16,mg);
+x[24]=ng;
+memcpy(x+25,y,7);
+w8(x+32,og);
+w8(x+40,pg);
+di=r8(C+8);
+ei=r8(D+32);
+if(ei<=(di^18446744073709551615u)){
+fi=ei+di;
+if(fi<=r8(D+24)){
+gi=rp(C);
 hi=r8(D+16);
-ii=r8(D+8);}
+ii=r8(D+8);
+if(di>hi-ii){
+ji=grow_amortized_2b6(D,di);
+if(!ji)goto L83;
+ki=r8(D+16);
+li=r8(D+8);}
 else{
-hi=ei;
-ii=fi;}
-ji=ii+ng;
-ki=rp(D);
-z16(D+8);
-li=ki+(i64)ii;
-if((u64)li-(u64)Ph<ng){
-copy_bits_4f4(Ph,li,ng);
-w8(D+8,ji);
-w8(D+16,hi);
-di=0;}
-else{
-memmove(li,Ph,ng);
-w8(D+8,ji);
-w8(D+16,hi);
-if(og){
-mi=0;
-goto L83;}
-di=0;}
-L82:w8(B+16,0);
-mi=di;
-L83:z18(B+32);
-Nh=pg;
-Oh=mi;
-goto L84;}
-end_within_4fe(w,B,I,C,D);
-if(*w==0){
-Nh=r16(w+16);
-Oh=r8(w+32);
-goto L84;}
-L81:goto L75;
-L84:z7(z);
-vg=Nh;
-wg=1;
-xg=1;
-yg=Oh;
-zg=0;
-goto L63;
-L75:goto L85;
-L63:w16(y,vg);
-w8(y+16,wg);
-y[24]=xg;
-memcpy(y+25,z,7);
-w8(y+32,yg);
-w8(y+40,zg);
-ni=r8(D+8);
-oi=r8(E+32);
-if(oi<=(ni^18446744073709551615u)){
-pi=oi+ni;
-if(pi<=r8(E+24)){
-qi=rp(D);
-ri=r8(E+16);
-si=r8(E+8);
-if(ni>ri-si){
-ti=grow_amortized_2b6(E,ni);
-if(!ti)goto L85;
-ui=r8(E+16);
-vi=r8(E+8);}
-else{
-ui=ri;
-vi=si;}
-wi=vi+ni;
-xi=rp(E)+(i64)vi;
-if((u64)xi-(u64)qi<ni)copy_bits_4f4(qi,xi,ni);
-else memmove(xi,qi,ni);
-w8(E+8,wi);
-w8(E+16,ui);}
-w8(E+32,pi);
-if(ni!=0)w8(D+8,0);
-yi=add_following_166(E,y,lg,wg);
-if(!(yi&1)){
-zi=wg+kg;
-if(zi>=jg)goto L61;
-kg=zi;
-goto L62;}}
-L85:goto L86;
-L61:Ai=A[9];
-if(A[8]&1){
-Bi=end_segment_cac(I,C,B,D,E);
-if(Bi!=0)goto L86;}
-Ci=jg+gg;
-if(Ci>=e)goto L87;
-gg=Ci;
-hg=Ai;
-goto L60;
-L86:if(r8(E+16)!=0)port_rattle_dealloc(rp(E));
-if(r8(D+16)!=0)port_rattle_dealloc(rp(D));
-memcpy(F,C,1544);
-drop_1dd(F);
-if(r8(B+24)==0)goto L88;
-goto L89;}
-L87:Di=end_segment_cac(I,C,B,D,E);
-if(!(Di&1)){
-Ei=rp(E);
-Fi=r8(E+8);
-Gi=r8(E+16);
-Hi=r8(E+32);
-Ii=r8(B+56);
-Ji=r8(B+64);
-Ki=r8(B+72);
-if(r8(D+16)!=0)port_rattle_dealloc(rp(D));
-memcpy(H,C,1544);
-drop_1dd(H);
-if(r8(B+24)!=0)port_rattle_dealloc(rp(B+8));
-if(g<Hi){
-Li=6;
-Mi=Hi;}
-else{
-if(g<Fi){
-Li=6;
-Mi=Fi;}
-else{
-if((u64)f-(u64)Ei<Fi)copy_bits_4f4(Ei,f,Fi);
-else memmove(f,Ei,Fi);
-w8(h,Ii);
-w8(h+8,Ji);
-w8(h+16,Ki);
-Li=0;
-Mi=Fi;}}
-if(Gi==0){
-Ni=Mi;
-Oi=Li;
-goto L90;}
-port_rattle_dealloc(Ei);
-Ni=Mi;
-Oi=Li;
-goto L90;}
-if(r8(E+16)!=0)port_rattle_dealloc(rp(E));
-if(r8(D+16)!=0)port_rattle_dealloc(rp(D));
-memcpy(G,C,1544);
+ki=hi;
+li=ii;}
+mi=li+di;
+ni=rp(D)+(i64)li;
+if((u64)ni-(u64)gi<di)copy_bits_4f4(gi,ni,di);
+else memmove(ni,gi,di);
+w8(D+8,mi);
+w8(D+16,ki);}
+w8(D+32,fi);
+if(di!=0)w8(C+8,0);
+oi=add_following_166(D,x,bg,mg);
+if(!(oi&1)){
+pi=mg+ag;
+if(pi>=Zf)goto L59;
+ag=pi;
+goto L60;}}
+L83:goto L84;
+L59:qi=z[9];
+if(z[8]&1){
+ri=end_segment_cac(H,B,A,C,D);
+if(ri!=0)goto L84;}
+si=Zf+Wf;
+if(si>=e)goto L85;
+Wf=si;
+Xf=qi;
+goto L58;
+L84:if(r8(D+16)!=0)port_rattle_dealloc(rp(D));
+if(r8(C+16)!=0)port_rattle_dealloc(rp(C));
+memcpy(E,B,1544);
+drop_1dd(E);
+if(r8(A+24)==0)goto L86;
+goto L87;}
+L85:ti=end_segment_cac(H,B,A,C,D);
+if(!(ti&1)){
+ui=rp(D);
+vi=r8(D+8);
+wi=r8(D+16);
+xi=r8(D+32);
+yi=r8(A+56);
+zi=r8(A+64);
+Ai=r8(A+72);
+if(r8(C+16)!=0)port_rattle_dealloc(rp(C));
+memcpy(G,B,1544);
 drop_1dd(G);
-if(r8(B+24)==0)goto L88;
-L89:port_rattle_dealloc(rp(B+8));
-L88:Ni=0;
-Oi=5;}
+if(r8(A+24)!=0)port_rattle_dealloc(rp(A+8));
+if(g<xi){
+Bi=6;
+Ci=xi;}
 else{
-w8(J,r8(I));
-J[8]=ma&1;
-J[9]=oa;
-zero_all(s+1512,144);
-z24(t);
-z40(u);
-*r=pa;
-z7(r+1);
-wp(r+8,(u8*)65536);
-z64(r+16);
-Pi=(u64)(u8*)65536;
+if(g<vi){
+Bi=6;
+Ci=vi;}
+else{
+if((u64)f-(u64)ui<vi)copy_bits_4f4(ui,f,vi);
+else memmove(f,ui,vi);
+w8(h,yi);
+w8(h+8,zi);
+w8(h+16,Ai);
+Bi=0;
+Ci=vi;}}
+if(wi==0){
+Di=Ci;
+Ei=Bi;
+goto L88;}
+port_rattle_dealloc(ui);
+Di=Ci;
+Ei=Bi;
+goto L88;}
+if(r8(D+16)!=0)port_rattle_dealloc(rp(D));
+if(r8(C+16)!=0)port_rattle_dealloc(rp(C));
+memcpy(F,B,1544);
+drop_1dd(F);
+if(r8(A+24)==0)goto L86;
+L87:port_rattle_dealloc(rp(A+8));
+L86:Di=0;
+Ei=5;}
+else{
+w8(I,r8(H));
+I[8]=ka&1;
+I[9]=ma;
+zero_all(r+1512,144);
+z24(s);
+z40(t);
+*q=na;
+z7(q+1);
+wp(q+8,(u8*)65536);
+z64(q+16);
+Fi=(u64)(u8*)65536;
+wp(r,(u8*)65536);
+z24(r+8);
+wp(r+32,(u8*)65536);
+z16(r+40);
+wp(r+56,(u8*)65536);
+z32(r+64);
+wp(r+96,(u8*)65536);
+z16(r+104);
+wp(r+120,(u8*)65536);
+z32(r+128);
+wp(r+160,(u8*)65536);
+z80(r+168);
+wp(r+248,(u8*)65536);
+z16(r+256);
+wp(r+272,(u8*)65536);
+z40(r+280);
+wp(r+320,(u8*)65536);
+z16(r+328);
+wp(r+344,(u8*)65536);
+z16(r+352);
+wp(r+368,(u8*)65536);
+z16(r+376);
+wp(r+392,(u8*)65536);
+z16(r+400);
+wp(r+416,(u8*)65536);
+z16(r+424);
+wp(r+440,(u8*)65536);
+z48(r+448);
+wp(r+496,(u8*)65536);
+z32(r+504);
+wp(r+536,(u8*)65536);
+z32(r+544);
+wp(r+576,(u8*)65536);
+z104(r+584);
+w8(r+688,Fi);
+z40(r+696);
+w8(r+736,Fi);
+z16(r+744);
+wp(r+760,(u8*)65536);
+z32(r+768);
+wp(r+800,(u8*)65536);
+z24(r+808);
+wp(r+832,(u8*)65536);
+z16(r+840);
+wp(r+856,(u8*)65536);
+z32(r+864);
+wp(r+896,(u8*)65536);
+z16(r+904);
+wp(r+920,(u8*)65536);
+z24(r+928);
+wp(r+952,(u8*)65536);
+z16(r+960);
+wp(r+976,(u8*)65536);
+z16(r+984);
+wp(r+1000,(u8*)65536);
+z40(r+1008);
+wp(r+1048,(u8*)65536);
+z16(r+1056);
+wp(r+1072,(u8*)65536);
+z16(r+1080);
+wp(r+1096,(u8*)65536);
+z16(r+1104);
+wp(r+1120,(u8*)65536);
+z16(r+1128);
+wp(r+1144,(u8*)65536);
+z16(r+1152);
+wp(r+1168,(u8*)65536);
+z48(r+1176);
+wp(r+1224,(u8*)65536);
+z32(r+1232);
+wp(r+1264,(u8*)65536);
+z40(r+1272);
+wp(r+1312,(u8*)65536);
+z32(r+1320);
+wp(r+1352,(u8*)65536);
+z16(r+1360);
+wp(r+1376,(u8*)65536);
+z48(r+1384);
+w8(r+1432,Fi);
+z40(r+1440);
+w8(r+1480,Fi);
+z16(r+1488);
+wp(r+1504,(u8*)65536);
+z32(r+1512);
+wp(r+1544,(u8*)65536);
+z32(r+1552);
+wp(r+1584,(u8*)65536);
+z16(r+1592);
+wp(r+1608,(u8*)65536);
+z16(r+1616);
+wp(r+1632,(u8*)65536);
+z16(r+1640);
 wp(s,(u8*)65536);
-z24(s+8);
-wp(s+32,(u8*)65536);
-z16(s+40);
-wp(s+56,(u8*)65536);
-z32(s+64);
-wp(s+96,(u8*)65536);
-z16(s+104);
-wp(s+120,(u8*)65536);
-z32(s+128);
-wp(s+160,(u8*)65536);
-z80(s+168);
-wp(s+248,(u8*)65536);
-z16(s+256);
-wp(s+272,(u8*)65536);
-z40(s+280);
-wp(s+320,(u8*)65536);
-z16(s+328);
-wp(s+344,(u8*)65536);
-z16(s+352);
-wp(s+368,(u8*)65536);
-z16(s+376);
-wp(s+392,(u8*)65536);
-z16(s+400);
-wp(s+416,(u8*)65536);
-z16(s+424);
-wp(s+440,(u8*)65536);
-z48(s+448);
-wp(s+496,(u8*)65536);
-z32(s+504);
-wp(s+536,(u8*)65536);
-z32(s+544);
-wp(s+576,(u8*)65536);
-z104(s+584);
-w8(s+688,Pi);
-z40(s+696);
-w8(s+736,Pi);
-z16(s+744);
-wp(s+760,(u8*)65536);
-z32(s+768);
-wp(s+800,(u8*)65536);
-z24(s+808);
-wp(s+832,(u8*)65536);
-z16(s+840);
-wp(s+856,(u8*)65536);
-z32(s+864);
-wp(s+896,(u8*)65536);
-z16(s+904);
-wp(s+920,(u8*)65536);
-z24(s+928);
-wp(s+952,(u8*)65536);
-z16(s+960);
-wp(s+976,(u8*)65536);
-z16(s+984);
-wp(s+1000,(u8*)65536);
-z40(s+1008);
-wp(s+1048,(u8*)65536);
-z16(s+1056);
-wp(s+1072,(u8*)65536);
-z16(s+1080);
-wp(s+1096,(u8*)65536);
-z16(s+1104);
-wp(s+1120,(u8*)65536);
-z16(s+1128);
-wp(s+1144,(u8*)65536);
-z16(s+1152);
-wp(s+1168,(u8*)65536);
-z48(s+1176);
-wp(s+1224,(u8*)65536);
-z32(s+1232);
-wp(s+1264,(u8*)65536);
-z40(s+1272);
-wp(s+1312,(u8*)65536);
-z32(s+1320);
-wp(s+1352,(u8*)65536);
-z16(s+1360);
-wp(s+1376,(u8*)65536);
-z48(s+1384);
-w8(s+1432,Pi);
-z40(s+1440);
-w8(s+1480,Pi);
-z16(s+1488);
-wp(s+1504,(u8*)65536);
-z32(s+1512);
-wp(s+1544,(u8*)65536);
-z32(s+1552);
-wp(s+1584,(u8*)65536);
-z16(s+1592);
-wp(s+1608,(u8*)65536);
-z16(s+1616);
-wp(s+1632,(u8*)65536);
-z16(s+1640);
+z16(s+8);
 wp(t,(u8*)65536);
 z16(t+8);
-wp(u,(u8*)65536);
-z16(u+8);
-w8(u+24,g);
-w8(u+32,0);
+w8(t+24,g);
+w8(t+32,0);
 if(e!=0){
-Qi=0;
-Ri=0;
-L91:Si=d+(i64)Qi;
-z16(q);
-first_segment_4a3(q,*r,Si,e-Qi,Ri);
-Ti=r8(q);
-z32(o+16);
-if(Ti==0)goto L92;
-Ui=0;
-L93:Vi=Si+(i64)Ui;
-Wi=Ti-Ui;
-z48(n);
-Xi=r8(r+16);
-Yi=Xi==0;
-Zi=r16(r+32);
-if(Yi&&Zi==0){
-if(r[50]&1){
-pass_6c7(n,r,Vi,Wi);
-aj=r16(n);
-bj=r8(n+16);
-cj=n[24];
-dj=r8(n+32);
-ej=r8(n+40);
-memcpy(p,n+25,7);
-fj=aj;
-gj=bj;
-hj=cj;
-ij=dj;
-jj=ej;
-goto L94;}
-kj=*r;
-lj=r[48];
-if(Wi==0)mj=0;
+Gi=0;
+Hi=0;
+L89:Ii=d+(i64)Gi;
+z16(p);
+first_segment_4a3(p,*q,Ii,e-Gi,Hi);
+Ji=r8(p);
+if(Ji==0)goto L90;
+Ki=0;
+L91:Li=Ii+(i64)Ki;
+Mi=Ji-Ki;
+z48(m);
+Ni=r8(q+16);
+Oi=Ni==0;
+Pi=r16(q+32);
+if(Oi&&Pi==0){
+if(q[50]&1){
+pass_6c7(m,q,Li,Mi);
+Qi=r16(m);
+Ri=r8(m+16);
+Si=m[24];
+Ti=r8(m+32);
+Ui=r8(m+40);
+memcpy(o,m+25,7);
+Vi=Qi;
+Wi=Ri;
+Xi=Si;
+Yi=Ti;
+Zi=Ui;
+goto L92;}
+aj=*q;
+bj=q[48];
+if(Mi==0)cj=0;
 else{
-nj=r[49];
-oj=kj+49;
-pj=kj==2;
-qj=0;
-L95:rj=Vi+qj;
-if(*rj==95){
-if(qj==0){
-switch(lj){
-case 0:sj=kj;
-goto L96;
-case 1:if(pj){
-switch(nj){
-case 46:case 36:tj=1;
-uj=49;
-goto L97;
+dj=q[49];
+ej=aj+49;
+fj=aj==2;
+gj=0;
+L93:hj=Li+gj;
+if(*hj==95){
+if(gj==0){
+switch(bj){
+case 0:ij=aj;
+goto L94;
+case 1:if(fj){
+switch(dj){
+case 46:case 36:jj=1;
+kj=49;
+goto L95;
 default:break;}}
 break;
-case 2:if(pj){
-switch(nj){
-case 46:case 36:tj=1;
-uj=49;
-goto L97;
+case 2:if(fj){
+switch(dj){
+case 46:case 36:jj=1;
+kj=49;
+goto L95;
 default:break;}}
 break;
 default:NEVER;
 }}
 else{
-vj=*((u8*)t_e4d8+rj[-1]);
-if(oj>vj){
-if(vj<=(kj==0?48:49)){
-xj=0;
-yj=0;
-zj=qj;
-goto L98;}
-wj=place_in_stretch_597(kj,Vi,qj,lj);
-xj=wj.f1;
-yj=wj.f0;
-zj=qj;
-goto L98;}}}
-Aj=qj+1;
-Bj=Wi-Aj;
-if(Bj<16)Cj=0;
-else{
-Dj=Vi+(i64)Aj;
-Ej=cttz(v16_eq(v16_at(Dj),splat(95)),16);
-if((Bj<32)|(Ej<16))Cj=Ej;
-else{
-Fj=cttz(v16_eq(v16_at(Dj+16),splat(95)),16);
-if(Fj<16)Cj=Fj|16;
-else{
-if(Bj<=95){
-Cj=32;
-goto L99;}
-Gj=32;
-L100:Hj=Dj+(i64)Gj;
-if((((v16_eq(v16_at(Hj),splat(95))|v16_eq(v16_at(Hj+16),splat(95)))|v16_eq(v16_at(Hj+32),splat(95)))|v16_eq(v16_at(Hj+48),splat(95)))==0){
-Ij=Gj+64;
-if(Bj-Ij>63){
-Gj=Ij;
-goto L100;}
-Cj=Ij;}
-else Cj=Gj;}}}
-L99:Jj=Cj+Aj;
-if(Jj<Wi){
-qj=Jj;
-goto L95;}
-mj=Jj;}
-if(*((u8*)t_e4d8+*(Vi+(i64)mj-1))>(kj==0?48:49)){
-Kj=place_in_stretch_597(kj,Vi,mj,lj);
-Lj=Kj.f0;
-Mj=Kj.f1;}
-else{
-Lj=0;
-Mj=0;}
-if(mj==0){
-sj=kj;
+lj=*((u8*)t_e4d8+hj[-1]);
+if(ej>lj){
+if(lj<=(aj==0?48:49)){
+nj=0;
+oj=0;
+pj=gj;
 goto L96;}
-xj=Mj;
-yj=Lj;
-zj=mj;
-L98:w2(r+48,(u16)((u32)xj<<8)|yj);
-z7(p);
-fj=0;
+mj=place_in_stretch_597(aj,Li,gj,bj);
+nj=mj.f1;
+oj=mj.f0;
+pj=gj;
+goto L96;}}}
+qj=gj+1;
+rj=Mi-qj;
+if(rj<16)sj=0;
+else{
+tj=Li+(i64)qj;
+uj=cttz(v16_eq(v16_at(tj),splat(95)),16);
+if((rj<32)|(uj<16))sj=uj;
+else{
+vj=cttz(v16_eq(v16_at(tj+16),splat(95)),16);
+if(vj<16)sj=vj|16;
+else{
+if(rj<=95){
+sj=32;
+goto L97;}
+wj=32;
+L98:xj=tj+(i64)wj;
+if((((v16_eq(v16_at(xj),splat(95))|v16_eq(v16_at(xj+16),splat(95)))|v16_eq(v16_at(xj+32),splat(95)))|v16_eq(v16_at(xj+48),splat(95)))==0){
+yj=wj+64;
+if(rj-yj>63){
+wj=yj;
+goto L98;}
+sj=yj;}
+else sj=wj;}}}
+L97:zj=sj+qj;
+if(zj<Mi){
 gj=zj;
-hj=1;
-ij=0;
-jj=0;
+goto L93;}
+cj=zj;}
+if(*((u8*)t_e4d8+*(Li+(i64)cj-1))>(aj==0?48:49)){
+Aj=place_in_stretch_597(aj,Li,cj,bj);
+Bj=Aj.f0;
+Cj=Aj.f1;}
+else{
+Bj=0;
+Cj=0;}
+if(cj==0){
+ij=aj;
 goto L94;}
-sj=*r;
-L96:tj=sj==2;
-uj=sj==1?50:49;
-L97:if(uj>*((u8*)t_e4d8+*Vi))goto L101;
-Nj=0;
-L102:if(Wi-Nj>15){
-Oj=v16_at(Vi+Nj);
-Pj=cttz(v16_ne(Oj,splat(36))&(v16_ne(Oj,splat(46))&(v16_ne(Oj,splat(95))&(v16_ult(v16_add(Oj,splat(198)),splat(246))&v16_ult(v16_add(v16_or(Oj,splat(32)),splat(133)),splat(230))))),16);
-Qj=Nj+Pj;
-if(Pj>=16){
-Nj=Qj;
+nj=Cj;
+oj=Bj;
+pj=cj;
+L96:w2(q+48,(u16)((u32)nj<<8)|oj);
+z7(o);
+Vi=0;
+Wi=pj;
+Xi=1;
+Yi=0;
+Zi=0;
+goto L92;}
+ij=*q;
+L94:jj=ij==2;
+kj=ij==1?50:49;
+L95:if(kj>*((u8*)t_e4d8+*Li))goto L99;
+Dj=0;
+L100:if(Mi-Dj>15){
+Ej=v16_at(Li+Dj);
+Fj=cttz(v16_ne(Ej,splat(36))&(v16_ne(Ej,splat(46))&(v16_ne(Ej,splat(95))&(v16_ult(v16_add(Ej,splat(198)),splat(246))&v16_ult(v16_add(v16_or(Ej,splat(32)),splat(133)),splat(230))))),16);
+Gj=Dj+Fj;
+if(Fj>=16){
+Dj=Gj;
+goto L100;}
+Hj=Gj;}
+else Hj=Dj;
+if(Hj>=Mi){
+Jj=Hj;
+goto L101;}
+Ij=Hj;
+L102:if(kj>*((u8*)t_e4d8+*(Li+Ij)))Jj=Ij;
+else{
+Kj=Ij+1;
+if(Kj!=Mi){
+Ij=Kj;
 goto L102;}
-Rj=Qj;}
-else Rj=Nj;
-if(Rj>=Wi){
-Tj=Rj;
+Jj=Mi;}
+L101:if(Jj==0)goto L99;
+Lj=Jj;
+L103:if(Lj==0){
+w16(q+32,Pi+Jj);
+Mj=0;
+Nj=0;}
+else{
+Oj=Lj-1;
+if(*(Li+Oj)==46){
+Lj=Oj;
 goto L103;}
-Sj=Rj;
-L104:if(uj>*((u8*)t_e4d8+*(Vi+Sj)))Tj=Sj;
+if(Pi+Lj>65536-Ni){
+Pj=rp(q+8);
+Qj=r8(s+16);
+Rj=r8(s+8);
+if(Ni>Qj-Rj){
+Sj=grow_amortized_2b6(s,Ni);
+if(!Sj)goto L104;
+Tj=r8(s+16);
+Uj=r8(s+8);}
 else{
-Uj=Sj+1;
-if(Uj!=Wi){
-Sj=Uj;
-goto L104;}
-Tj=Wi;}
-L103:if(Tj==0)goto L101;
-Vj=Tj;
-L105:if(Vj==0){
-w16(r+32,Zi+Tj);
-Wj=0;
-Xj=0;}
+Tj=Qj;
+Uj=Rj;}
+Vj=Uj+Ni;
+Wj=rp(s);
+z16(s+8);
+Xj=Wj+(i64)Uj;
+if((u64)Xj-(u64)Pj<Ni){
+copy_bits_4f4(Pj,Xj,Ni);
+w8(s+8,Vj);
+w8(s+16,Tj);}
 else{
-Yj=Vj-1;
-if(*(Vi+Yj)==46){
-Vj=Yj;
-goto L105;}
-if(Zi+Vj>65536-Xi){
-Zj=rp(r+8);
-ak=r8(t+16);
-bk=r8(t+8);
-if(Xi>ak-bk){
-ck=grow_amortized_2b6(t,Xi);
-if(!ck)goto L106;
-dk=r8(t+16);
-ek=r8(t+8);}
+memmove(Xj,Pj,Ni);
+w8(s+8,Vj);
+w8(s+16,Tj);
+if(Oi)goto L105;}
+w8(q+16,0);
+L105:w16(q+32,0);
+q[50]=1;
+Mj=Pi;
+Nj=1;}
 else{
-dk=ak;
-ek=bk;}
-fk=ek+Xi;
-gk=rp(t);
-z16(t+8);
-hk=gk+(i64)ek;
-if((u64)hk-(u64)Zj<Xi){
-copy_bits_4f4(Zj,hk,Xi);
-w8(t+8,fk);
-w8(t+16,dk);}
+Yj=Pi;
+Zj=Ni+Yj;
+if(Zj>Ni){
+ak=r8(q+24);
+if(ak-Ni<Yj){
+bk=grow_amortized_2b6(q+8,Yj);
+if(!bk)goto L104;
+ck=r8(q+16);
+dk=ck+Yj;
+ek=r8(q+24);
+fk=ck;}
 else{
-memmove(hk,Zj,Xi);
-w8(t+8,fk);
-w8(t+16,dk);
-if(Yi)goto L107;}
-w8(r+16,0);
-L107:w16(r+32,0);
-r[50]=1;
-Wj=Zi;
-Xj=1;}
+dk=Zj;
+ek=ak;
+fk=Ni;}
+if(fk<dk)memset(rp(q+8)+(i64)fk,46,Yj);
+w8(q+16,dk);
+w8(q+24,ek);
+gk=dk;}
 else{
-ik=Zi;
-jk=Xi+ik;
-if(jk>Xi){
-kk=r8(r+24);
-if(kk-Xi<ik){
-lk=grow_amortized_2b6(r+8,ik);
-if(!lk)goto L106;
-mk=r8(r+16);
-nk=mk+ik;
-ok=r8(r+24);
-pk=mk;}
+if(Ni>Zj){
+w8(q+16,Zj);
+gk=Zj;}
+else gk=Ni;}
+hk=r8(q+24);
+if(Lj>hk-gk){
+ik=grow_amortized_2b6(q+8,Lj);
+if(!ik)goto L104;
+jk=r8(q+24);
+kk=r8(q+16);}
 else{
-nk=jk;
-ok=kk;
-pk=Xi;}
-if(pk<nk)memset(rp(r+8)+(i64)pk,46,ik);
-w8(r+16,nk);
-w8(r+24,ok);
-qk=nk;}
-else{
-if(Xi>jk){
-w8(r+16,jk);
-qk=jk;}
-else qk=Xi;}
-rk=r8(r+24);
-if(Vj>rk-qk){
-sk=grow_amortized_2b6(r+8,Vj);
-if(!sk)goto L106;
-tk=r8(r+24);
-uk=r8(r+16);}
-else{
-tk=rk;
-uk=qk;}
-vk=uk+Vj;
-wk=rp(r+8)+(i64)uk;
-if((u64)wk-(u64)Vi<Vj)copy_bits_4f4(Vi,wk,Vj);
-else memmove(wk,Vi,Vj);
-w8(r+16,vk);
-w8(r+24,tk);
-w16(r+32,Tj-Vj);
-Wj=0;
-Xj=0;}}
-z7(p);
-fj=Wj;
-gj=Tj;
-hj=Xj;
-ij=0;
-jj=0;
-goto L94;
-L101:z48(m);
-if(!tj){
-zk=rp(r+8);
-if(Xi-65537>=0xffffffffffff0001u){
-Ak=*zk==95;
-if(Xi==2){
-if(!Ak)goto L108;
-switch(zk[1]){
-case 90:Bk=0;
-goto L109;
+jk=hk;
+kk=gk;}
+lk=kk+Lj;
+mk=rp(q+8)+(i64)kk;
+if((u64)mk-(u64)Li<Lj)copy_bits_4f4(Li,mk,Lj);
+else memmove(mk,Li,Lj);
+w8(q+16,lk);
+w8(q+24,jk);
+w16(q+32,Jj-Lj);
+Mj=0;
+Nj=0;}}
+z7(o);
+Vi=Mj;
+Wi=Jj;
+Xi=Nj;
+Yi=0;
+Zi=0;
+goto L92;
+L99:z48(l);
+if(!jj){
+pk=rp(q+8);
+if(Ni-65537>=0xffffffffffff0001u){
+qk=*pk==95;
+if(Ni==2){
+if(!qk)goto L106;
+switch(pk[1]){
+case 90:rk=0;
+goto L107;
 case 82:break;
-default:goto L108;
+default:goto L106;
 }}
 else{
-if(!Ak)goto L108;
-switch(zk[1]){
-case 90:Bk=0;
-goto L109;
+if(!qk)goto L106;
+switch(pk[1]){
+case 90:rk=0;
+goto L107;
 case 82:break;
-case 95:switch(zk[2]){
-case 90:Bk=0x100000000u;
-goto L109;
-case 82:Bk=0x100000001u;
-goto L109;
-default:goto L108;
+case 95:switch(pk[2]){
+case 90:rk=0x100000000u;
+goto L107;
+case 82:rk=0x100000001u;
+goto L107;
+default:goto L106;
 }
 break;
-default:goto L108;
+default:goto L106;
 }}
-Bk=1;
-L109:Ck=Bk>>32;
-z12(l);
-append_018(l,J,s,Bk,zk+(i64)Ck,Xi-Ck,t);
-if(*l!=0){
-if(l[4]!=4){
-Fk=r8(t+16);
-Gk=r8(t+8);
-if(Xi>Fk-Gk){
-Hk=grow_amortized_2b6(t,Xi);
-if(!Hk)goto L110;
-Ik=r8(t+16);
-Jk=r8(t+8);}
+rk=1;
+L107:sk=push_text_fb5(I,r,pk,Ni,rk,rk>>32,s);
+if(sk.f0!=0)goto L108;
+tk=sk.f1&1;
+w8(q+56,uadd64(r8(q+56),1));
+uk=q+(u64)(tk?64:72);
+w8(uk,uadd64(r8(uk),1));
+vk=tk?0:Ni;
+goto L109;}
+L106:wk=r8(s+16);
+xk=r8(s+8);
+if(Ni>wk-xk){
+yk=grow_amortized_2b6(s,Ni);
+if(!yk)goto L108;
+zk=r8(s+16);
+Ak=r8(s+8);}
 else{
-Ik=Fk;
-Jk=Gk;}
-Kk=Jk+Xi;
-Lk=rp(t)+(i64)Jk;
-if((u64)Lk-(u64)zk<Xi)copy_bits_4f4(zk,Lk,Xi);
-else memmove(Lk,zk,Xi);
-w8(t+8,Kk);
-w8(t+16,Ik);
-Dk=Xi;
-Ek=16;
+zk=wk;
+Ak=xk;}
+Bk=Ak+Ni;
+Ck=rp(s);
+z16(s+8);
+Dk=Ck+(i64)Ak;
+if((u64)Dk-(u64)pk<Ni){
+copy_bits_4f4(pk,Dk,Ni);
+w8(s+8,Bk);
+w8(s+16,zk);
+vk=0;}
+else{
+memmove(Dk,pk,Ni);
+w8(s+8,Bk);
+w8(s+16,zk);
+if(Oi){
+Ek=0;
+goto L110;}
+vk=0;}
+L109:w8(q+16,0);
+Ek=vk;
+L110:z18(q+32);
+nk=Pi;
+ok=Ek;
 goto L111;}
-L110:goto L112;}
-Dk=0;
-Ek=8;
-L111:w8(r+56,uadd64(r8(r+56),1));
-Mk=r+56+(i64)Ek;
-w8(Mk,uadd64(r8(Mk),1));
-Nk=Dk;
-goto L113;}
-L108:Ok=r8(t+16);
-Pk=r8(t+8);
-if(Xi>Ok-Pk){
-Qk=grow_amortized_2b6(t,Xi);
-if(!Qk)goto L112;
-Rk=r8(t+16);
-Sk=r8(t+8);}
+end_within_3fd(l,q,I,r,s);
+if(*l==0){
+nk=r16(l+16);
+ok=r8(l+32);
+goto L111;}
+L108:goto L104;
+L111:z7(o);
+Vi=nk;
+Wi=1;
+Xi=1;
+Yi=ok;
+Zi=0;
+goto L92;
+L104:goto L112;
+L92:w16(n,Vi);
+w8(n+16,Wi);
+n[24]=Xi;
+memcpy(n+25,o,7);
+w8(n+32,Yi);
+w8(n+40,Zi);
+Fk=r8(s+8);
+Gk=r8(t+32);
+if(Gk<=(Fk^18446744073709551615u)){
+Hk=Gk+Fk;
+if(Hk<=r8(t+24)){
+Ik=rp(s);
+Jk=r8(t+16);
+Kk=r8(t+8);
+if(Fk>Jk-Kk){
+Lk=grow_amortized_2b6(t,Fk);
+if(!Lk)goto L112;
+Mk=r8(t+16);
+Nk=r8(t+8);}
 else{
-Rk=Ok;
-Sk=Pk;}
-Tk=Sk+Xi;
-Uk=rp(t);
-z16(t+8);
-Vk=Uk+(i64)Sk;
-if((u64)Vk-(u64)zk<Xi){
-copy_bits_4f4(zk,Vk,Xi);
-w8(t+8,Tk);
-w8(t+16,Rk);
-Nk=0;}
-else{
-memmove(Vk,zk,Xi);
-w8(t+8,Tk);
-w8(t+16,Rk);
-if(Yi){
-Wk=0;
-goto L114;}
-Nk=0;}
-L113:w8(r+16,0);
-Wk=Nk;
-L114:z18(r+32);
-xk=Zi;
-yk=Wk;
-goto L115;}
-end_within_3fd(m,r,J,s,t);
-if(*m==0){
-xk=r16(m+16);
-yk=r8(m+32);
-goto L115;}
-L112:goto L106;
-L115:z7(p);
-fj=xk;
-gj=1;
-hj=1;
-ij=yk;
-jj=0;
-goto L94;
-L106:goto L116;
-L94:w16(o,fj);
-w8(o+16,gj);
-o[24]=hj;
-memcpy(o+25,p,7);
-w8(o+32,ij);
-w8(o+40,jj);
-Xk=r8(t+8);
-Yk=r8(u+32);
-if(Yk<=(Xk^18446744073709551615u)){
-Zk=Yk+Xk;
-if(Zk<=r8(u+24)){
-al=rp(t);
-bl=r8(u+16);
-cl=r8(u+8);
-if(Xk>bl-cl){
-dl=grow_amortized_2b6(u,Xk);
-if(!dl)goto L116;
-el=r8(u+16);
-fl=r8(u+8);}
-else{
-el=bl;
-fl=cl;}
-gl=fl+Xk;
-hl=rp(u)+(i64)fl;
-if((u64)hl-(u64)al<Xk)copy_bits_4f4(al,hl,Xk);
-else memmove(hl,al,Xk);
-w8(u+8,gl);
-w8(u+16,el);}
-w8(u+32,Zk);
-if(Xk!=0)w8(t+8,0);
-il=add_following_166(u,o,Vi,gj);
-if(!(il&1)){
-jl=gj+Ui;
-if(jl>=Ti)goto L92;
-Ui=jl;
-goto L93;}}
-L116:goto L117;
-L92:kl=q[9];
-if(q[8]&1){
-ll=end_segment_ba1(J,s,r,t,u);
-if(ll!=0)goto L117;}
-ml=Ti+Qi;
-if(ml>=e)goto L118;
-Qi=ml;
-Ri=kl;
-goto L91;
-L117:if(r8(u+16)!=0)port_rattle_dealloc(rp(u));
-if(r8(t+16)!=0)port_rattle_dealloc(rp(t));
-nl=rp(s+1544);
-ol=rp(s+1584);
-pl=r8(s+1600);
-ql=rp(s+1608);
-rl=r8(s+1624);
-sl=rp(s+1632);
-tl=r8(s+1648);
-ul=r8(s+1560);
-memcpy(k,s,1544);
+Mk=Jk;
+Nk=Kk;}
+Ok=Nk+Fk;
+Pk=rp(t)+(i64)Nk;
+if((u64)Pk-(u64)Ik<Fk)copy_bits_4f4(Ik,Pk,Fk);
+else memmove(Pk,Ik,Fk);
+w8(t+8,Ok);
+w8(t+16,Mk);}
+w8(t+32,Hk);
+if(Fk!=0)w8(s+8,0);
+Qk=add_following_166(t,n,Li,Wi);
+if(!(Qk&1)){
+Rk=Wi+Ki;
+if(Rk>=Ji)goto L90;
+Ki=Rk;
+goto L91;}}
+L112:goto L113;
+L90:Sk=p[9];
+if(p[8]&1){
+Tk=end_segment_ba1(I,r,q,s,t);
+if(Tk!=0)goto L113;}
+Uk=Ji+Gi;
+if(Uk>=e)goto L114;
+Gi=Uk;
+Hi=Sk;
+goto L89;
+L113:if(r8(t+16)!=0)port_rattle_dealloc(rp(t));
+if(r8(s+16)!=0)port_rattle_dealloc(rp(s));
+Vk=rp(r+1544);
+Wk=rp(r+1584);
+Xk=r8(r+1600);
+Yk=rp(r+1608);
+Zk=r8(r+1624);
+al=rp(r+1632);
+bl=r8(r+1648);
+cl=r8(r+1560);
+memcpy(k,r,1544);
 drop_1dd(k);
-if(ul!=0)port_rattle_dealloc(nl);
-if(pl!=0)port_rattle_dealloc(ol);
-if(rl!=0)port_rattle_dealloc(ql);
-if(tl!=0)port_rattle_dealloc(sl);
-if(r8(r+24)==0)goto L119;
-goto L120;}
-L118:vl=end_segment_ba1(J,s,r,t,u);
-if(!(vl&1)){
-El=rp(u);
-Fl=r8(u+8);
-Gl=r8(u+16);
-Hl=r8(u+32);
-Il=r8(r+56);
-Jl=r8(r+64);
-Kl=r8(r+72);
-if(r8(t+16)!=0)port_rattle_dealloc(rp(t));
-Ll=rp(s+1544);
-Ml=rp(s+1584);
-Nl=r8(s+1600);
-Ol=rp(s+1608);
-Pl=r8(s+1624);
-Ql=rp(s+1632);
-Rl=r8(s+1648);
-Sl=r8(s+1560);
-memcpy(j,s,1544);
+if(cl!=0)port_rattle_dealloc(Vk);
+if(Xk!=0)port_rattle_dealloc(Wk);
+if(Zk!=0)port_rattle_dealloc(Yk);
+if(bl!=0)port_rattle_dealloc(al);
+if(r8(q+24)==0)goto L115;
+goto L116;}
+L114:dl=end_segment_ba1(I,r,q,s,t);
+if(!(dl&1)){
+ml=rp(t);
+nl=r8(t+8);
+ol=r8(t+16);
+pl=r8(t+32);
+ql=r8(q+56);
+rl=r8(q+64);
+sl=r8(q+72);
+if(r8(s+16)!=0)port_rattle_dealloc(rp(s));
+tl=rp(r+1544);
+ul=rp(r+1584);
+vl=r8(r+1600);
+wl=rp(r+1608);
+xl=r8(r+1624);
+yl=rp(r+1632);
+zl=r8(r+1648);
+Al=r8(r+1560);
+memcpy(j,r,1544);
 drop_1dd(j);
-if(Sl!=0)port_rattle_dealloc(Ll);
-if(Nl!=0)port_rattle_dealloc(Ml);
-if(Pl!=0)port_rattle_dealloc(Ol);
-if(Rl!=0)port_rattle_dealloc(Ql);
-if(r8(r+24)!=0)port_rattle_dealloc(rp(r+8));
-if(g<Hl){
-Tl=6;
-Ul=Hl;}
+if(Al!=0)port_rattle_dealloc(tl);
+if(vl!=0)port_rattle_dealloc(ul);
+if(xl!=0)port_rattle_dealloc(wl);
+if(zl!=0)port_rattle_dealloc(yl);
+if(r8(q+24)!=0)port_rattle_dealloc(rp(q+8));
+if(g<pl){
+Bl=6;
+Cl=pl;}
 else{
-if(g<Fl){
-Tl=6;
-Ul=Fl;}
+if(g<nl){
+Bl=6;
+Cl=nl;}
 else{
-if((u64)f-(u64)El<Fl)copy_bits_4f4(El,f,Fl);
-else memmove(f,El,Fl);
-w8(h,Il);
-w8(h+8,Jl);
-w8(h+16,Kl);
-Tl=0;
-Ul=Fl;}}
-if(Gl==0){
-Ni=Ul;
-Oi=Tl;
-goto L90;}
-port_rattle_dealloc(El);
-Ni=Ul;
-Oi=Tl;
-goto L90;}
-if(r8(u+16)!=0)port_rattle_dealloc(rp(u));
+if((u64)f-(u64)ml<nl)copy_bits_4f4(ml,f,nl);
+else memmove(f,ml,nl);
+w8(h,ql);
+w8(h+8,rl);
+w8(h+16,sl);
+Bl=0;
+Cl=nl;}}
+if(ol==0){
+Di=Cl;
+Ei=Bl;
+goto L88;}
+port_rattle_dealloc(ml);
+Di=Cl;
+Ei=Bl;
+goto L88;}
 if(r8(t+16)!=0)port_rattle_dealloc(rp(t));
-wl=rp(s+1544);
-xl=rp(s+1584);
-yl=r8(s+1600);
-zl=rp(s+1608);
-Al=r8(s+1624);
-Bl=rp(s+1632);
-Cl=r8(s+1648);
-Dl=r8(s+1560);
-memcpy(i,s,1544);
+if(r8(s+16)!=0)port_rattle_dealloc(rp(s));
+el=rp(r+1544);
+fl=rp(r+1584);
+gl=r8(r+1600);
+hl=rp(r+1608);
+il=r8(r+1624);
+jl=rp(r+1632);
+kl=r8(r+1648);
+ll=r8(r+1560);
+memcpy(i,r,1544);
 drop_1dd(i);
-if(Dl!=0)port_rattle_dealloc(wl);
-if(yl!=0)port_rattle_dealloc(xl);
-if(Al!=0)port_rattle_dealloc(zl);
-if(Cl!=0)port_rattle_dealloc(Bl);
-if(r8(r+24)==0)goto L119;
-L120:port_rattle_dealloc(rp(r+8));
-L119:Ni=0;
-Oi=5;}
-L90:dg=Ni;
-eg=Oi;}
-x8(a,dg);
+if(ll!=0)port_rattle_dealloc(el);
+if(gl!=0)port_rattle_dealloc(fl);
+if(il!=0)port_rattle_dealloc(hl);
+if(kl!=0)port_rattle_dealloc(jl);
+if(r8(q+24)==0)goto L115;
+L116:port_rattle_dealloc(rp(q+8));
+L115:Di=0;
+Ei=5;}
+L88:Tf=Di;
+Uf=Ei;}
+x8(a,Tf);
 x4(a+8,0);
-x4(a+12,eg);
+x4(a+12,Uf);
 return;
 }
 
@@ -108297,442 +108255,1213 @@ L6:return w;
 /* sym_filter::words::Words::end_within */
 static void end_within_916(u8* a,u8* b,u8* c,u8* d,u8* e)
 {
-A16 u8 f[12],g[12],h[12];
-u128 i;
-u8 *j,*o,*x,*y,*z,*W,*ea,*fa,*sa,*ta,*Ba,*Ca;
-u64 k,n,p,q,r,s,u,v,w,A,G,J,K,L,T,U,X,Y,Z,ba,ca,da,ha,ia,ma,na,pa,qa,ra,ua,va,wa,ya,za,Aa;
-u8 l,m,t,B,C,D,E,F,H,I,M,N,O,P,R,S,V,aa,ga,ja,ka,oa,xa;
-s_8_8 Q,la;
-i=r16(b+32);
-j=rp(b+8);
-k=r8(b+16);
-l=b[48];
-m=b[49];
-if(!((k<2)|(l!=0))){
-if(*j==95){
-if(((u8)(j[1]-82)&247)==0){
-n=k;
-o=j;
-p=0;
+A16 u8 f[12];
+u128 g;
+u8 *h,*m,*v,*w,*x,*G,*ia,*qa,*ra,*Aa,*Ba,*Ja,*Ka;
+u64 i,l,n,o,p,q,s,t,u,y,A,C,D,E,H,I,L,M,N,O,Q,R,S,U,V,W,X,Y,aa,ba,ca,da,ja,ka,la,na,oa,pa,ua,va,xa,ya,za,Ca,Da,Ea,Ga,Ha,Ia;
+u8 j,k,r,z,B,F,J,K,P,T,Z,ea,ma,wa,Fa;
+s_8_8 fa,ga,ha,sa,ta;
+g=r16(b+32);
+h=rp(b+8);
+i=r8(b+16);
+j=b[48];
+k=b[49];
+if(!((i<2)|(j!=0))){
+if(*h==95){
+if(((u8)(h[1]-82)&247)==0){
+l=i;
+m=h;
+n=0;
 goto L1;}}}
-q=mark_behind_724(j,k,l,m);
-if(q==0){
-n=k;
-o=j;
-p=0;}
+o=mark_behind_724(h,i,j,k);
+if(o==0){
+l=i;
+m=h;
+n=0;}
 else{
-r=r8(e+16);
-s=r8(e+8);
-if(q>r-s){
-t=grow_amortized_2b6(e,q);
-if(!t){
+p=r8(e+16);
+q=r8(e+8);
+if(o>p-q){
+r=grow_amortized_2b6(e,o);
+if(!r){
 *a=1;
 z32(a+16);
 goto L2;}
-u=r8(e+16);
-v=r8(e+8);}
+s=r8(e+16);
+t=r8(e+8);}
 else{
-u=r;
-v=s;}
-w=v+q;
-x=rp(e);
+s=p;
+t=q;}
+u=t+o;
+v=rp(e);
 z16(e+8);
-y=x+(i64)v;
-if((u64)y-(u64)j<q)copy_bits_4f4(j,y,q);
-else memmove(y,j,q);
-wp(e,x);
-w8(e+8,w);
-w8(e+16,u);
-n=r8(b+16);
-o=rp(b+8);
-p=q;}
-L1:z=o+(i64)p;
-A=n-p;
-if(A-65537>=0xffffffffffff0001u){
-B=A==2;
-C=*z;
-D=C==95;
-if(B){
-if(!D)goto L3;
-E=z[1];
-switch(E){
-case 90:F=E;
-G=0;
+w=v+(i64)t;
+if((u64)w-(u64)h<o)copy_bits_4f4(h,w,o);
+else memmove(w,h,o);
+wp(e,v);
+w8(e+8,u);
+w8(e+16,s);
+l=r8(b+16);
+m=rp(b+8);
+n=o;}
+L1:x=m+(i64)n;
+y=l-n;
+if(y-65537>=0xffffffffffff0001u){
+z=*x==95;
+if(y==2){
+if(!z)goto L3;
+switch(x[1]){
+case 90:A=0;
 goto L4;
 case 82:break;
 default:goto L3;
 }}
 else{
-if(!D)goto L3;
-H=z[1];
-switch(H){
-case 90:F=H;
-G=0;
+if(!z)goto L3;
+switch(x[1]){
+case 90:A=0;
 goto L4;
 case 82:break;
-case 95:switch(z[2]){
-case 90:F=95;
-G=0x100000000u;
+case 95:switch(x[2]){
+case 90:A=0x100000000u;
 goto L4;
-case 82:F=95;
-G=0x100000001u;
+case 82:A=0x100000001u;
 goto L4;
 default:goto L3;
 }
 break;
 default:goto L3;
 }}
-F=82;
-G=1;
-L4:I=G;
-J=G>>32;
-K=A;
-L5:if(K!=0){
-L=K-1;
-M=*(z+L);
-if(!((M!=46)&((i8)M>-1))){
-K=L;
+A=1;
+L4:B=A;
+C=A>>32;
+D=y;
+L5:if(D!=0){
+E=D-1;
+F=*(x+E);
+if(!((F!=46)&((i8)F>-1))){
+D=E;
 goto L5;}}
-if(K!=A){
-if(K-65537<0xffffffffffff0001u)S=C;
-else{
-if(K==2){
-if(!D){
-S=C;
-goto L6;}
-switch(F){
-case 90:T=0;
-goto L7;
-case 82:break;
-default:S=95;
-goto L6;
-}}
-else{
-if(!D){
-S=C;
-goto L6;}
-switch(F){
-case 90:T=0;
-goto L7;
-case 82:break;
-case 95:switch(z[2]){
-case 90:T=0x100000000u;
-goto L7;
-case 82:T=0x100000001u;
-goto L7;
-default:S=95;
-goto L6;
-}
-break;
-default:NEVER;
-}}
-T=1;
-L7:U=T>>32;
-z12(g);
-append_d61(g,c,d,T,z+(i64)U,K-U,e);
-V=*g==0;
-if(!(V||g[4]!=4))goto L8;
-if(V){
-W=z+(i64)K;
-X=A-K;
-Y=r8(e+16);
-Z=r8(e+8);
-if(X>Y-Z){
-aa=grow_amortized_2b6(e,X);
-if(!aa)goto L8;
-ba=r8(e+16);
-ca=r8(e+8);}
-else{
-ba=Y;
-ca=Z;}
-da=ca+X;
-ea=rp(e);
-z16(e+8);
-fa=ea+(i64)ca;
-if((u64)fa-(u64)W<X)copy_bits_4f4(W,fa,X);
-else memmove(fa,W,X);
-wp(e,ea);
-w8(e+8,da);
-w8(e+16,ba);
-goto L9;}
-S=*z;}
-L6:ga=S==95;
-if(B){
-if(!ga)goto L10;
-switch(z[1]){
-case 90:ha=0;
-goto L11;
-case 82:break;
-default:goto L10;
-}}
-else{
-if(!ga)goto L10;
-switch(z[1]){
-case 90:ha=0;
-goto L11;
-case 82:break;
-case 95:switch(z[2]){
-case 90:ha=0x100000000u;
-goto L11;
-case 82:ha=0x100000001u;
-goto L11;
-default:goto L10;
-}
-break;
-default:goto L10;
-}}
-ha=1;
-L11:ia=ha>>32;
+if(D==y){
+G=x+(i64)C;
+H=y-C;
+I=r8(e+8);
 z12(f);
-append_d61(f,c,d,ha,z+(i64)ia,A-ia,e);
-ja=*f==0;
-ka=f[4]==4;
-if(ja||ka){
-P=!ja&&ka;
-goto L12;}
-L10:la=append_parts_339(c,d,z,A,e);
-if(la.f0!=0)goto L8;
-R=la.f1;
-goto L13;}
-z12(h);
-append_d61(h,c,d,I,z+(i64)J,A-J,e);
-N=*h==0;
-O=h[4]==4;
-if(!(N||O)){
-Q=append_parts_339(c,d,z,A,e);
-if(Q.f0!=0)goto L8;
-R=Q.f1;
-goto L13;}
-P=!N&&O;
-L12:if(P)goto L8;
-R=!P;
-L13:if(!(R&1)){
-ma=r8(e+16);
-na=r8(e+8);
-if(A>ma-na){
-oa=grow_amortized_2b6(e,A);
-if(!oa)goto L8;
-pa=r8(e+16);
-qa=r8(e+8);}
+if(H>=21){
+if(G[2]==78){
+J=G[3];
+if((u8)(J-49)>=9){
+N=3;
+O=3;
+P=J;
+goto L6;}
+K=J;
+L=3;
+M=3;
+L7:Q=M+9;
+R=M;
+S=0;
+L8:T=*(G+R)-48;
+if(T<10){
+U=S*10+T;
+V=R+1;
+if(V-M<9){
+R=V;
+S=U;
+goto L8;}
+if(Q<H){
+if((u8)(*(G+Q)-48)<10){
+N=M;
+O=L;
+P=K;
+goto L6;}
+W=U;
+X=Q;}
 else{
-pa=ma;
-qa=na;}
-ra=qa+A;
-sa=rp(e);
+W=U;
+X=Q;}}
+else{
+W=S;
+X=R;}
+Y=X+W;
+if(Y+17>=H){
+if(Y>=H)goto L9;
+if(*(G+Y)!=69)goto L9;
+aa=Y+1;
+if(H==aa){
+if(M==3)goto L9;
+ba=M;
+ca=H;
+goto L10;}
+if(M==3||(H-aa<2||*(G+(i64)aa)!=46))goto L9;
+ba=M;
+ca=aa;
+goto L10;}
+Z=*(G+Y);
+if((u8)(Z-49)<9){
+K=Z;
+L=M;
+M=Y;
+goto L7;}
+N=Y;
+O=M;
+P=Z;
+L6:if(!((N<H)&(P==69)))goto L9;
+da=N+1;
+if(H==da){
+if(O==3)goto L9;
+ba=O;
+ca=H;}
+else{
+if(O==3||(H-da<2||*(G+(i64)da)!=46))goto L9;
+ba=O;
+ca=da;}
+L10:append_named_df1(f,c,d,B,G,H,ba,ca,e);
+goto L11;}}
+L9:append_a0b(f,c,d,B,G,H,e);
+L11:if(*f==0){
+ea=rewrite_or_remove_fa2(c+8,d+1544,B,G,H,I,e);
+if(ea&1)goto L12;
+goto L13;}
+if(f[4]==4)goto L12;
+fa=append_parts_339(c,d,x,y,e);
+if(fa.f0!=0)goto L12;
+ga=fa;}
+else{
+ha=append_text_8f3(c,d,x,D,e);
+if(ha.f0!=0)goto L12;
+if(ha.f1&1){
+ia=x+(i64)D;
+ja=y-D;
+ka=r8(e+16);
+la=r8(e+8);
+if(ja>ka-la){
+ma=grow_amortized_2b6(e,ja);
+if(!ma)goto L12;
+na=r8(e+16);
+oa=r8(e+8);}
+else{
+na=ka;
+oa=la;}
+pa=oa+ja;
+qa=rp(e);
 z16(e+8);
-ta=sa+(i64)qa;
-if((u64)ta-(u64)z<A)copy_bits_4f4(z,ta,A);
-else memmove(ta,z,A);
-wp(e,sa);
-w8(e+8,ra);
-w8(e+16,pa);
+ra=qa+(i64)oa;
+if((u64)ra-(u64)ia<ja)copy_bits_4f4(ia,ra,ja);
+else memmove(ra,ia,ja);
+wp(e,qa);
+w8(e+8,pa);
+w8(e+16,na);
+goto L13;}
+sa=append_text_8f3(c,d,x,y,e);
+if(sa.f0!=0)goto L12;
+if(sa.f1&1)goto L13;
+ta=append_parts_339(c,d,x,y,e);
+if(ta.f0!=0)goto L12;
+ga=ta;}
+if(!(ga.f1&1)){
+ua=r8(e+16);
+va=r8(e+8);
+if(y>ua-va){
+wa=grow_amortized_2b6(e,y);
+if(!wa)goto L12;
+xa=r8(e+16);
+ya=r8(e+8);}
+else{
+xa=ua;
+ya=va;}
+za=ya+y;
+Aa=rp(e);
+z16(e+8);
+Ba=Aa+(i64)ya;
+if((u64)Ba-(u64)x<y)copy_bits_4f4(x,Ba,y);
+else memmove(Ba,x,y);
+wp(e,Aa);
+w8(e+8,za);
+w8(e+16,xa);
 w8(b+56,uadd64(r8(b+56),1));
 w8(b+72,uadd64(r8(b+72),1));
-ua=A;
+Ca=y;
 goto L14;}
-L9:w8(b+56,uadd64(r8(b+56),1));
+L13:w8(b+56,uadd64(r8(b+56),1));
 w8(b+64,uadd64(r8(b+64),1));
-ua=0;
+Ca=0;
 goto L14;
-L8:*a=1;
+L12:*a=1;
 z32(a+16);
 goto L2;}
-L3:va=r8(e+16);
-wa=r8(e+8);
-if(A>va-wa){
-xa=grow_amortized_2b6(e,A);
-if(!xa){
+L3:Da=r8(e+16);
+Ea=r8(e+8);
+if(y>Da-Ea){
+Fa=grow_amortized_2b6(e,y);
+if(!Fa){
 *a=1;
 z32(a+16);
 goto L2;}
-ya=r8(e+16);
-za=r8(e+8);}
+Ga=r8(e+16);
+Ha=r8(e+8);}
 else{
-ya=va;
-za=wa;}
-Aa=za+A;
-Ba=rp(e);
+Ga=Da;
+Ha=Ea;}
+Ia=Ha+y;
+Ja=rp(e);
 z16(e+8);
-Ca=Ba+(i64)za;
-if((u64)Ca-(u64)z<A)copy_bits_4f4(z,Ca,A);
-else memmove(Ca,z,A);
-wp(e,Ba);
-w8(e+8,Aa);
-w8(e+16,ya);
-ua=0;
+Ka=Ja+(i64)Ha;
+if((u64)Ka-(u64)x<y)copy_bits_4f4(x,Ka,y);
+else memmove(Ka,x,y);
+wp(e,Ja);
+w8(e+8,Ia);
+w8(e+16,Ga);
+Ca=0;
 L14:if(r8(b+16)!=0)w8(b+16,0);
 z18(b+32);
 *a=0;
-x16(a+16,i);
-x8(a+32,ua);
+x16(a+16,g);
+x8(a+32,Ca);
 x8(a+40,0);
 L2:return;
 }
 
-/* sym_short::rewriting::RewritingDemangler::append */
-static void append_d61(u8* a,u8* b,u8* c,u8 d,u8* e,u64 f,u8* g)
+/* sym_short::rewriting::rewrite_or_remove */
+static u8 rewrite_or_remove_fa2(u8* a,u8* b,u8 c,u8* d,u64 e,u64 f,u8* g)
 {
-A16 u8 h[24],i[12];
-u64 j,m,n,o,p,r,s,t,v,w,x,y,z,B,C,D,E,F,J,K,L,M,P,Q,R,T,aa;
-u8 k,l,q,u,A,H,I,V,W,Z;
-u8 *G,*N,*S,*U;
-v64 O;
-u32 X,Y;
-j=r8(g+8);
-z12(i);
-if(f>=21){
-if(e[2]==78){
-k=e[3];
-if((u8)(k-49)>=9){
-o=3;
-p=3;
-q=k;
-goto L1;}
-l=k;
-m=3;
-n=3;
-L2:r=n+9;
-s=n;
-t=0;
-L3:u=*(e+s)-48;
-if(u<10){
-v=t*10+u;
-w=s+1;
-if(w-n<9){
-s=w;
-t=v;
+u8 i[16],l[16];
+A16 u8 h[12],j[32],k[48],m[12],n[32],o[48],p[24],q[24],r[24],s[24],t[24];
+u64 u,y,z,A,B,E,F,G,I,O,Q,R,S,V,X,Y,Z,aa,ba,ea,fa,ga,ia,la,ma,oa,pa,qa,ra,sa,ta,ua,va,xa,ya,Aa,Ba,Ca,Ia,Ja,Ka,Ma,Na,Oa,Qa,Ra,Ta,Ua,Va,Ya,Za,ab,bb,cb,db,hb,ib,jb,kb,nb,ob,pb,rb,sb,vb,yb,zb,Ab,Bb,Db,Fb,Gb,Ib,Jb,Mb,Nb,Rb,Sb,Ub,Wb,Xb,Zb,ac,bc,cc,ec,hc,ic,jc,lc,mc,nc,pc,qc,rc,uc,wc,yc,Ac,Dc,Ec,Gc,Hc,Jc,Kc,Mc,Oc,Pc,Sc,Vc,Xc,ad,dd,ed,jd,ld,md,nd,sd,ud,xd,Ed,Hd,Ld,Md,Nd,Qd,Rd,Ud,Wd,Yd,ce,de,ee,ie,ke,me,ne,oe,pe,se,te,ue,xe,ze,Ae,Be,Ce,Ee,Fe,Ge,He,Ke,Le,Me,Oe,Qe,Re,Se,Te,Ve,We,Xe,Ye,Ze,af,bf,ef,ff,gf,hf,kf,lf,nf,pf,rf,sf,vf,xf,zf,Bf,Cf,Ef,Lf,Nf,Of,Qf,Rf,Sf,Vf,Wf,Xf,Yf,ag,cg,dg,eg,ig,kg,lg,mg,pg;
+u8 *v,*C,*H,*J,*T,*U,*W,*ca,*ha,*ja,*na,*wa,*Da,*Ea,*Fa,*Ha,*La,*Pa,*Wa,*Xa,*eb,*lb,*qb,*tb,*Ob,*Vb,*dc,*kc,*sc,*tc,*vc,*xc,*zc,*Cc,*Fc,*Ic,*Nc,*Zc,*cd,*fd,*kd,*od,*qd,*vd,*Id,*Kd,*Od,*Vd,*Zd,*be,*fe,*he,*le,*re,*ve,*we,*Je,*Pe,*uf,*Mf,*Tf,*Uf,*Zf,*fg,*gg,*hg,*ng,*og;
+u8 w,x,K,L,M,N,P,ka,za,Ga,Sa,fb,gb,ub,Cb,Eb,Kb,Lb,Pb,Qb,Tb,Yb,oc,Bc,Lc,Tc,Uc,Wc,Yc,bd,id,pd,td,Ad,Gd,Jd,Xd,ae,ge,je,qe,ye,De,Ie,Ne,Ue,jf,mf,of,qf,tf,wf,yf,Af,Df,Ff,Gf,Hf,If,Jf,Kf,Pf,bg,jg;
+v64 D,da,mb;
+v16 wb,cf;
+u16 xb,fc,gc,Qc,Rc,gd,hd,Bd,Dd,Sd,Td,df;
+u32 Hb,yd,zd,Cd,Fd;
+s_8_64 Pd;
+u=r8(g+8)-f;
+if(u>4){
+v=rp(g)+(i64)f;
+w=u>66;
+x=u>18;
+y=u-19;
+z=u-67;
+A=0;
+L1:if(w){
+B=umin64(z,A);
+C=v+(i64)B;
+D=v64_and(v64_eq(v64_at(C+2),v64_splat(100)),v64_eq(v64_at(C+3),v64_splat(58)));
+E=(((((u64)v16_top(D.p[1])<<16)|v16_top(D.p[0]))|((u64)v16_top(D.p[2])<<32))|((u64)v16_top(D.p[3])<<48))>>(A-B);
+F=E==0?B+64:cttz(E,64)+A;}
+else{
+if(x){
+G=umin64(y,A);
+H=v+(i64)G;
+I=(u64)(v16_eq(v16_at(H+2),splat(100))&v16_eq(v16_at(H+3),splat(58)))>>(A-G);
+F=I==0?G+16:cttz(I,64)+A;}
+else F=A;}
+if(u-F>=5){
+J=v+(i64)F;
+if(*J==115){
+if(J[1]==116){
+if(J[2]==100){
+if(J[3]==58){
+if(J[4]==58){
+if(F!=0){
+K=J[-1];
+if(K==58)goto L2;
+if(*((u8*)t_39e2+K)==49)goto L2;}
+L=c==0;
+if(L&&a[1]&1){
+z24(t);
+path_of_ea7(t,d,e);
+if(*t&1){
+M=0;
+goto L3;}}
+else{
+if(!L){
+M=0;
+goto L3;}}
+N=*a&1;
+if(r8(b+8)!=0)w8(b+8,0);
+if(N){
+O=r8(b+16);
+if(u>O){
+P=grow_amortized_2b6(b,u);
+if(!P)goto L4;
+Q=r8(b+16);
+R=r8(b+8);}
+else{
+Q=O;
+R=0;}
+S=R+u;
+T=rp(b);
+z16(b+8);
+U=T+(i64)R;
+if((u64)U-(u64)v<u)copy_bits_4f4(v,U,u);
+else memmove(U,v,u);
+wp(b,T);
+w8(b+8,S);
+w8(b+16,Q);
+V=S;
+W=T;}
+else{
+X=0;
+Y=0;
+Z=0;
+L5:aa=Z;
+L6:if(w){
+ba=umin64(z,aa);
+ca=v+(i64)ba;
+da=v64_and(v64_eq(v64_at(ca+2),v64_splat(100)),v64_eq(v64_at(ca+3),v64_splat(58)));
+ea=(((((u64)v16_top(da.p[1])<<16)|v16_top(da.p[0]))|((u64)v16_top(da.p[2])<<32))|((u64)v16_top(da.p[3])<<48))>>(aa-ba);
+fa=ea==0?ba+64:cttz(ea,64)+aa;}
+else{
+if(x){
+ga=umin64(y,aa);
+ha=v+(i64)ga;
+ia=(u64)(v16_eq(v16_at(ha+2),splat(100))&v16_eq(v16_at(ha+3),splat(58)))>>(aa-ga);
+fa=ia==0?ga+16:cttz(ia,64)+aa;}
+else fa=aa;}
+if(u-fa>=5){
+ja=v+(i64)fa;
+if(*ja==115){
+if(ja[1]==116){
+if(ja[2]==100){
+if(ja[3]==58){
+if(ja[4]==58){
+if(fa!=0){
+ka=ja[-1];
+if(ka==58)goto L7;
+if(*((u8*)t_39e2+ka)==49)goto L7;}
+la=fa+5;
+ma=u-la;
+z24(s);
+if(ma>=3){
+na=v+(i64)la;
+if((*((u8*)t_59c0+na[2])&*((u8*)t_d6fe+*na))!=0){
+read_661(s,na,ma);
+oa=r8(s);
+pa=r8(s+8);
+qa=r8(s+16);
+ra=oa+la;
+sa=ra+pa+qa;
+if(oa==0&&qa==0){
+ta=X;
+ua=sa;
+va=Y;
+goto L8;}
+wa=v+(i64)Y;
+xa=la-Y;
+ya=r8(b+16);
+if(xa>ya-X){
+za=grow_amortized_2b6(b,xa);
+if(!za)goto L4;
+Aa=r8(b+16);
+Ba=r8(b+8);}
+else{
+Aa=ya;
+Ba=X;}
+Ca=Ba+xa;
+Da=rp(b);
+z16(b+8);
+Ea=Da+(i64)Ba;
+if((u64)Ea-(u64)wa<xa)copy_bits_4f4(wa,Ea,xa);
+else memmove(Ea,wa,xa);
+wp(b,Da);
+w8(b+8,Ca);
+w8(b+16,Aa);
+Fa=v+(i64)ra;
+if(pa>Aa-Ca){
+Ga=grow_amortized_2b6(b,pa);
+if(!Ga)goto L4;
+Ha=rp(b);
+Ia=r8(b+16);
+Ja=r8(b+8);}
+else{
+Ha=Da;
+Ia=Aa;
+Ja=Ca;}
+Ka=Ja+pa;
+z16(b+8);
+La=Ha+(i64)Ja;
+if((u64)La-(u64)Fa<pa)copy_bits_4f4(Fa,La,pa);
+else memmove(La,Fa,pa);
+wp(b,Ha);
+w8(b+8,Ka);
+w8(b+16,Ia);
+ta=Ka;
+ua=sa;
+va=sa;
+goto L8;}}
+ta=X;
+ua=la;
+va=Y;
+L8:if(u-ua<=4){
+Ma=ta;
+Na=va;
+goto L9;}
+X=ta;
+Y=va;
+Z=ua;
+goto L5;}}}}}}
+L7:Oa=fa+1;
+if(u-Oa>4){
+aa=Oa;
+goto L6;}
+Ma=X;
+Na=Y;
+L9:Pa=v+(i64)Na;
+Qa=u-Na;
+Ra=r8(b+16);
+if(Qa>Ra-Ma){
+Sa=grow_amortized_2b6(b,Qa);
+if(!Sa)goto L4;
+Ta=r8(b+16);
+Ua=r8(b+8);}
+else{
+Ta=Ra;
+Ua=Ma;}
+Va=Ua+Qa;
+Wa=rp(b);
+z16(b+8);
+Xa=Wa+(i64)Ua;
+if((u64)Xa-(u64)Pa<Qa)copy_bits_4f4(Pa,Xa,Qa);
+else memmove(Xa,Pa,Qa);
+wp(b,Wa);
+w8(b+8,Va);
+w8(b+16,Ta);
+V=Va;
+W=Wa;}
+z16(b+24);
+if(r8(b+48)!=0)w8(b+48,0);
+if(r8(b+72)!=0)w8(b+72,0);
+if(r8(b+96)!=0)w8(b+96,0);
+if(V==0){
+Ya=0;
+Za=0;
+ab=0;
+goto L10;}
+bb=0;
+L11:cb=r8(b+72);
+if(cb==0){
+w8(r,0);
+db=V-bb;
+z24(q);
+if(db>4){
+eb=W+(i64)bb;
+fb=db>66;
+gb=db>18;
+hb=db-19;
+ib=db-67;
+jb=0;
+L12:if(fb){
+kb=umin64(ib,jb);
+lb=eb+(i64)kb;
+mb=v64_and(v64_eq(v64_at(lb+2),v64_splat(100)),v64_eq(v64_at(lb+3),v64_splat(58)));
+nb=(((((u64)v16_top(mb.p[1])<<16)|v16_top(mb.p[0]))|((u64)v16_top(mb.p[2])<<32))|((u64)v16_top(mb.p[3])<<48))>>(jb-kb);
+ob=nb==0?kb+64:cttz(nb,64)+jb;}
+else{
+if(gb){
+pb=umin64(hb,jb);
+qb=eb+(i64)pb;
+rb=(u64)(v16_eq(v16_at(qb+2),splat(100))&v16_eq(v16_at(qb+3),splat(58)))>>(jb-pb);
+ob=rb==0?pb+16:cttz(rb,64)+jb;}
+else ob=jb;}
+sb=db-ob;
+if(sb>=5){
+tb=eb+(i64)ob;
+if(*tb==115){
+if(tb[1]==116){
+if(tb[2]==100){
+if(tb[3]==58){
+if(tb[4]==58){
+if(ob!=0){
+ub=tb[-1];
+if(ub==58)goto L13;
+if(*((u8*)t_39e2+ub)==49)goto L13;}
+vb=0;
+L14:if(sb-vb>15){
+wb=v16_at(tb+vb);
+xb=cttz(v16_sgt(wb,splat(255))&(v16_ne(wb,splat(36))&(v16_ne(wb,splat(46))&(v16_ne(wb,splat(95))&(v16_ult(v16_add(wb,splat(197)),splat(245))&v16_ult(v16_add(v16_or(wb,splat(32)),splat(133)),splat(230)))))),16);
+yb=vb+xb;
+if(xb>=16){
+vb=yb;
+goto L14;}
+zb=yb;}
+else zb=vb;
+if(zb>=sb){
+Bb=zb;
+goto L15;}
+Ab=zb;
+L16:Cb=*(tb+Ab);
+if(Cb!=58){
+if(*((u8*)t_39e2+Cb)!=49){
+Bb=Ab;
+goto L15;}}
+Db=Ab+1;
+if(Db!=sb){
+Ab=Db;
+goto L16;}
+Bb=sb;
+L15:change_at_a46(q,tb,sb,tb,Bb);
+Eb=*q;
+if(Eb==0){
+Fb=ob+1;
+if(db-Fb<=4)goto L17;
+Gb=Fb;
+goto L18;}
+Hb=q4(q+2);
+Ib=r8(q+8);
+Jb=r8(q+16);
+w8(b+24,r8(b+24)+ob);
+w2(r,Eb);
+x4(r+2,Hb);
+w8(r+8,Ib);
+w8(r+16,Jb);
+Kb=change_d40(b+24,W,V,Bb,r);
+Lb=Kb;
+goto L19;}}}}}}
+L13:Mb=ob+1;
+if(db-Mb<=4)goto L17;
+Gb=Mb;
+L18:jb=Gb;
+goto L12;}
+L17:w8(b+24,V);
+Nb=V;
+goto L20;}
+Ob=W+bb;
+Pb=*Ob;
+if(Pb!=58){
+if(*((u8*)t_39e2+Pb)!=49){
+switch(Pb){
+case 123:case 91:case 60:case 40:Qb=Pb==60;
+Rb=bb-r8(b+32)+r8(b+48);
+Sb=r8(b+96);
+if(r8(b+80)==cb){
+Tb=grow_amortized_f8b(b+64);
+if(!Tb)goto L4;
+Ub=r8(b+72);}
+else Ub=cb;
+Vb=rp(b+64)+Ub*48;
+*Vb=Qb;
+z31(Vb+1);
+x8(Vb+32,Rb);
+x8(Vb+40,Sb);
+w8(b+72,Ub+1);
+Wb=Rb+1;
+Xb=r8(b+96);
+if(r8(b+104)==Xb){
+Yb=grow_amortized_03f(b+88);
+if(!Yb)goto L4;
+Zb=r8(b+96);}
+else Zb=Xb;
+w8(rp(b+88)+(Zb<<3),Wb);
+w8(b+96,Zb+1);
+ac=r8(b+24)+1;
+w8(b+24,ac);
+bc=ac;
+goto L21;
+case 62:cc=cb-1;
+w8(b+72,cc);
+dc=rp(b+64)+cc*48;
+if(!(*dc&1)){
+Ne=0;
+goto L22;}
+ec=q8(dc+40);
+if(dc[8]!=1){
+if(r8(b+96)>ec)w8(b+96,ec);
+Me=bb+1;
+w8(b+24,Me);
+bc=Me;
+goto L21;}
+fc=q2(dc+16);
+gc=q2(dc+18);
+hc=q8(dc+24);
+ic=q8(dc+32);
+jc=r8(b+32);
+kc=W+(i64)jc;
+lc=bb-jc;
+mc=r8(b+56);
+nc=r8(b+48);
+if(lc>mc-nc){
+oc=grow_amortized_2b6(b+40,lc);
+if(!oc)goto L4;
+pc=r8(b+56);
+qc=r8(b+48);}
+else{
+pc=mc;
+qc=nc;}
+rc=qc+lc;
+sc=rp(b+40);
+z16(b+48);
+tc=sc+(i64)qc;
+if((u64)tc-(u64)kc<lc)copy_bits_4f4(kc,tc,lc);
+else memmove(tc,kc,lc);
+wp(b+40,sc);
+w8(b+48,rc);
+w8(b+56,pc);
+uc=r8(b+24);
+w8(b+32,uc);
+vc=(u8*)t_1d51+hc*12;
+wc=uc+1;
+xc=W+(i64)wc;
+yc=V-wc;
+zc=rp(b+88)+(i64)(ec<<3);
+Ac=r8(b+96)-ec;
+w2(l,fc);
+w2(l+2,gc);
+memcpy(l+4,vc,12);
+z12(m);
+z32(n);
+z48(o);
+Bc=Ac==0;
+if(Bc){
+Cc=(u8*)t_z0;
+Dc=0;
+Ec=0;
+Fc=(u8*)t_z0;}
+else{
+Gc=r8(zc);
+if(Ac==1){
+Cc=sc+(i64)Gc;
+Dc=rc-Gc;
+Ec=0;
+Fc=(u8*)t_z0;}
+else{
+Hc=r8(zc+8);
+Ic=sc+(i64)Gc;
+Jc=Hc-Gc-2;
+if(Ac>2)Kc=r8(zc+16)-2;
+else Kc=rc;
+Cc=Ic;
+Dc=Jc;
+Ec=Kc-Hc;
+Fc=sc+(i64)Hc;}}
+Lc=(fc<=gc)&(gc<2413);
+Mc=Lc?(u64)gc-fc:0;
+Nc=Lc?(u8*)t_76ae_2+(i64)fc:(u8*)t_z0;
+w2(i,fc);
+w2(i+2,gc);
+memcpy(i+4,vc,12);
+if(Ac>i[8])Oc=Ac;
+else{
+wp(j,sc);
+w8(j+8,rc);
+wp(j+16,zc);
+w8(j+24,Ac);
+wp(k,Cc);
+w8(k+8,Dc);
+wp(k+16,Fc);
+w8(k+24,Ec);
+wp(k+32,Nc);
+w8(k+40,Mc);
+Pc=without_defaults_014(j,i,k,Ac);
+Oc=Pc;}
+Qc=r2(l+4);
+Rc=r2(l+6);
+Sc=(((Qc<=Rc)&(Rc<2413))?(u64)Qc-Rc:0)+ic;
+Tc=l[14];
+Uc=l[15];
+Vc=r8(zc);
+Wc=Oc==0;
+if(Wc)Xc=Vc;
+else{
+if(Oc<Ac)Xc=r8(zc+(Oc<<3))-2;
+else Xc=rc;}
+Yc=umin8(Uc,47);
+if(Tc<Yc){
+Zc=sc+(i64)Vc;
+ad=Xc-Vc;
+bd=Mc==5;
+cd=bd?(u8*)t_fc66:(u8*)t_61bc;
+dd=bd?4:9;
+ed=Tc;
+L23:fd=(u8*)t_d411+ed*12;
+gd=r2(fd+4);
+hd=r2(fd+6);
+id=(gd>hd)|(hd>2412);
+jd=(u64)hd-gd;
+kd=id?(u8*)t_z0:(u8*)t_76ae_2+(i64)gd;
+if((hd==gd)|id){
+ld=ad;
+goto L24;}
+md=0;
+nd=ad;
+od=Zc;
+L25:pd=*(kd+md);
+if(pd<4){
+switch(pd){
+case 0:qd=Cc;
+sd=Dc;
+break;
+case 1:qd=Fc;
+sd=Ec;
+break;
+case 2:qd=Nc;
+sd=Mc;
+break;
+case 3:qd=cd;
+sd=dd;
+break;
+default:goto L26;
+}
+if(nd<sd)goto L27;
+td=parts_equal_58b(od,sd,qd,sd);
+if(!td)goto L27;
+ud=nd-sd;
+vd=od+(i64)sd;}
+else{
+if(nd==0)goto L27;
+if(*od!=pd)goto L27;
+ud=nd-1;
+vd=od+1;}
+xd=md+1;
+if(xd!=jd){
+md=xd;
+nd=ud;
+od=vd;
+goto L25;}
+ld=ud;
+L24:if(ld==0){
+yd=q4(fd);
+zd=q4(fd+8);
+w4(h,yd);
+w2(h+4,gd);
+w2(h+6,hd);
+w4(h+8,zd);
+Ad=is_read_back_c31(h,xc,yc);
+if(!Ad)goto L28;
+w4(m,yd);
+w2(m+4,gd);
+w2(m+6,hd);
+w4(m+8,zd);
+Bd=zd;
+Cd=zd>>16;
+Dd=Cd;
+if(rc>Sc){
+w8(b+48,Sc);
+Ed=Sc;}
+else Ed=rc;
+Fd=zd&65535;
+Gd=(zd<158138368)&(Bd<=Dd);
+Hd=Gd?(u64)Cd-Fd:0;
+Id=Gd?(u8*)t_76ae_2+(i64)Fd:(u8*)t_z0;
+if(Hd>pc-Ed){
+Jd=grow_amortized_2b6(b+40,Hd);
+if(!Jd)goto L29;
+Kd=rp(b+40);
+Ld=r8(b+56);
+Md=r8(b+48);}
+else{
+Kd=sc;
+Ld=pc;
+Md=Ed;}
+Nd=Md+Hd;
+z16(b+48);
+Od=Kd+(i64)Md;
+if((u64)Od-(u64)Id<Hd)copy_bits_4f4(Id,Od,Hd);
+else memcpy(Od,Id,Hd);
+wp(b+40,Kd);
+w8(b+48,Nd);
+w8(b+56,Ld);
+Pd=append_constructor_c34(m,xc,yc,b+40);
+if(Pd.f0!=0)goto L4;
+Qd=Pd.f1;
+goto L30;}
+L27:Rd=ed+1;
+if(Rd!=Yc){
+ed=Rd;
+goto L23;}}
+L28:if(Ac==l[8]){
+Sd=r2(l+10);
+Td=r2(l+12);
+if(Bc){
+Ud=0;
+Vd=(u8*)t_z0;}
+else{
+Wd=r8(zc+(i64)(Ac<<3)-8);
+Ud=rc-Wd;
+Vd=sc+(i64)Wd;}
+Xd=(Sd>Td)|(Td>2412);
+if(!((Td==Sd)|Xd)){
+Yd=(u64)Td-Sd;
+Zd=Xd?(u8*)t_z0:(u8*)t_76ae_2+(i64)Sd;
+ae=Mc==5;
+be=ae?(u8*)t_fc66:(u8*)t_61bc;
+ce=ae?4:9;
+de=0;
+ee=Ud;
+fe=Vd;
+L31:ge=*(Zd+de);
+if(ge<4){
+switch(ge){
+case 0:he=Cc;
+ie=Dc;
+break;
+case 1:he=Fc;
+ie=Ec;
+break;
+case 2:he=Nc;
+ie=Mc;
+break;
+case 3:he=be;
+ie=ce;
+break;
+default:goto L26;
+}
+if(ee<ie)goto L32;
+je=parts_equal_58b(fe,ie,he,ie);
+if(!je)goto L32;
+ke=ee-ie;
+le=fe+(i64)ie;}
+else{
+if(ee==0)goto L32;
+if(*fe!=ge)goto L32;
+ke=ee-1;
+le=fe+1;}
+me=de+1;
+if(me!=Yd){
+de=me;
+ee=ke;
+fe=le;
+goto L31;}
+if(ke==0){
+wp(n,sc);
+w8(n+8,rc);
+wp(n+16,zc);
+w8(n+24,Ac);
+wp(o,Cc);
+w8(o+8,Dc);
+wp(o+16,Fc);
+w8(o+24,Ec);
+wp(o+32,Nc);
+w8(o+40,Mc);
+ne=without_defaults_014(n,l,o,Ac-1);
+if(ne==0)oe=Vc;
+else{
+if(ne>=Ac){
+pe=rc;
+goto L33;}
+oe=r8(zc+(ne<<3))-2;}
+if(rc>oe){
+w8(b+48,oe);
+pe=oe;}
+else pe=rc;
+L33:if(pc-pe<5){
+qe=grow_amortized_2b6(b+40,5);
+if(!qe)goto L29;
+re=rp(b+40);
+se=r8(b+56);
+te=r8(b+48);}
+else{
+re=sc;
+se=pc;
+te=pe;}
+ue=te+5;
+z16(b+48);
+ve=re+(i64)te;
+if((u64)ve-(u64)(u8*)t_8830<5)copy_bits_4f4((u8*)t_8830,ve,5);
+else memcpy(ve,(u8*)t_8830,5);
+wp(b+40,re);
+w8(b+48,ue);
+w8(b+56,se);
+we=re+(i64)Sc;
+xe=ue-Sc;
+switch(xe){
+case 5:break;
+case 6:ye=*we;
+memmove(we,we+1,5);
+we[5]=ye;
+break;
+default:ze=xe-5;
+Ae=umin64(ze,5);
+Be=xe-Ae;
+turn_through_room_153(we,xe,ze,Be<4097?Be:Ae);
+break;}
+Ce=r8(b+48);
+if(r8(b+56)==Ce){
+De=grow_amortized_2b6(b+40,1);
+if(!De)goto L29;
+Ee=r8(b+48);}
+else Ee=Ce;
+*(rp(b+40)+Ee)=62;
+Fe=Ee;
+goto L34;}}}
+L32:if(Wc)Ge=Vc;
+else{
+if(Oc>=Ac){
+He=rc;
+goto L35;}
+Ge=r8(zc+(Oc<<3))-2;}
+if(rc>Ge){
+w8(b+48,Ge);
+He=Ge;}
+else He=rc;
+L35:if(pc==He){
+Ie=grow_amortized_2b6(b+40,1);
+if(!Ie)goto L29;
+Je=rp(b+40);
+Ke=r8(b+48);}
+else{
+Je=sc;
+Ke=He;}
+*(Je+Ke)=62;
+Fe=Ke;
+L34:w8(b+48,Fe+1);
+Qd=0;
+goto L30;
+L26:NEVER;
+L29:goto L4;
+L30:Le=Qd+1+r8(b+24);
+w8(b+24,Le);
+w8(b+32,Le);
+if(r8(b+96)<=ec){
+bc=Le;
+goto L21;}
+w8(b+96,ec);
+bc=Le;
+goto L21;
+case 125:case 93:case 41:Oe=cb-1;
+w8(b+72,Oe);
+Pe=rp(b+64)+Oe*48;
+if(*Pe&1){
+Ne=0;
+goto L22;}
+Qe=q8(Pe+40);
+if(r8(b+96)>Qe)w8(b+96,Qe);
+Re=bb+1;
+w8(b+24,Re);
+bc=Re;
+goto L21;
+case 44:if(V-bb>1&&*(rp(b+64)+(i64)(cb*48)-48)&1){
+if(Ob[1]==32){
+Se=bb+2+r8(b+48)-r8(b+32);
+Te=r8(b+96);
+if(r8(b+104)==Te){
+Ue=grow_amortized_03f(b+88);
+if(!Ue)goto L4;
+Ve=r8(b+96);}
+else Ve=Te;
+w8(rp(b+88)+(Ve<<3),Se);
+w8(b+96,Ve+1);
+We=r8(b+24)+2;
+goto L36;}}
+We=bb+1;
+L36:w8(b+24,We);
+bc=We;
+goto L21;
+case 45:if(V-bb>=2){
+if(Ob[1]==62){
+Xe=2;
+goto L37;}}
+Xe=1;
+L37:Ye=Xe+bb;
+w8(b+24,Ye);
+bc=Ye;
+goto L21;
+default:Ze=bb+1;
+w8(b+24,Ze);
+bc=Ze;
+goto L21;
+}}}
+z24(p);
+af=V-bb;
+bf=0;
+L38:if(af-bf>15){
+cf=v16_at(Ob+bf);
+df=cttz(v16_sgt(cf,splat(255))&(v16_ne(cf,splat(36))&(v16_ne(cf,splat(46))&(v16_ne(cf,splat(95))&(v16_ult(v16_add(cf,splat(197)),splat(245))&v16_ult(v16_add(v16_or(cf,splat(32)),splat(133)),splat(230)))))),16);
+ef=bf+df;
+if(df>=16){
+bf=ef;
+goto L38;}
+ff=ef;}
+else ff=bf;
+if(ff>=af){
+hf=ff;
+goto L39;}
+gf=ff;
+L40:jf=*(Ob+gf);
+if(jf!=58){
+if(*((u8*)t_39e2+jf)!=49){
+hf=gf;
+goto L39;}}
+kf=gf+1;
+if(kf!=af){
+gf=kf;
+goto L40;}
+hf=af;
+L39:if(hf<5){
+lf=0;
+goto L41;}
+mf=0;
+nf=0;
+L42:of=mf||*((u8*)t_0f44+(i64)nf)!=*(Ob+(i64)nf);
+pf=nf+1;
+if(pf!=4){
+mf=of;
+nf=pf;
+goto L42;}
+qf=0;
+rf=0;
+L43:sf=rf+1;
+tf=qf||*((u8*)t_0f44+(i64)sf)!=*(Ob+(i64)sf);
+if(sf!=4){
+qf=tf;
+rf=sf;
+goto L43;}
+if(!(of|tf)){
+change_at_a46(p,Ob,af,Ob,hf);
+Kf=change_d40(b+24,W,V,hf,p);
+Lb=Kf;
+goto L19;}
+if(hf<8)lf=0;
+else{
+uf=Ob+(i64)hf;
+vf=af-hf;
+wf=0;
+xf=0;
+L44:yf=wf||*((u8*)t_06e5+(i64)xf)!=*(uf-8+(i64)xf);
+zf=xf+1;
+if(zf!=4){
+wf=yf;
+xf=zf;
+goto L44;}
+Af=0;
+Bf=0;
+L45:Cf=Bf+4;
+Df=Af||*((u8*)t_06e5+(i64)Cf)!=*(uf-8+(i64)Cf);
+Ef=Bf+1;
+if(Ef!=4){
+Af=Df;
+Bf=Ef;
+goto L45;}
+if(yf|Df)lf=0;
+else{
+if(hf!=8){
+if(*((u8*)t_39e2+uf[-9])==49){
+lf=0;
+goto L41;}}
+if(vf<3){
+switch(vf){
+case 2:Ff=uf[1];
+Gf=*uf;
+break;
+case 0:lf=vf;
+goto L41;
+default:Hf=*uf;
+goto L46;
+}}
+else{
+If=*uf;
+Jf=uf[1];
+if((If==60)&(Jf==61)&&uf[2]==62){
+lf=3;
+goto L41;}
+Ff=Jf;
+Gf=If;}
+if((Ff==60)&(Gf==60)){
+lf=2;
+goto L41;}
+if((Ff==62)&((Gf==62)|(Gf==45))){
+lf=2;
+goto L41;}
+Hf=Gf;
+L46:lf=(Hf&253)==60;}}
+L41:Lf=hf+bb+lf;
+w8(b+24,Lf);
+bc=Lf;
+goto L21;
+L19:if(Lb!=0)goto L4;
+bc=r8(b+24);
+L21:if(bc<V){
+bb=bc;
+goto L11;}
+Nb=bc;
+L20:Ya=r8(b+48);
+Za=r8(b+32);
+ab=Nb;
+L10:Mf=W+(i64)Za;
+Nf=ab-Za;
+Of=r8(b+56);
+if(Nf>Of-Ya){
+Pf=grow_amortized_2b6(b+40,Nf);
+if(!Pf)goto L4;
+Qf=r8(b+56);
+Rf=r8(b+48);}
+else{
+Qf=Of;
+Rf=Ya;}
+Sf=Rf+Nf;
+Tf=rp(b+40);
+z16(b+48);
+Uf=Tf+(i64)Rf;
+if((u64)Uf-(u64)Mf<Nf)copy_bits_4f4(Mf,Uf,Nf);
+else memmove(Uf,Mf,Nf);
+wp(b+40,Tf);
+w8(b+48,Sf);
+w8(b+56,Qf);
+w8(b+32,r8(b+24));
+Ne=r8(b+72)==0;
+L22:Vf=r8(g+8);
+if(Vf>f){
+w8(g+8,f);
+Wf=f;}
+else Wf=Vf;
+Xf=r8(g+16);
+Yf=Xf-Wf;
+if(Ne){
+Zf=rp(b+40);
+ag=r8(b+48);
+if(ag>Yf){
+bg=grow_amortized_2b6(g,ag);
+if(!bg)goto L4;
+cg=r8(g+16);
+dg=r8(g+8);}
+else{
+cg=Xf;
+dg=Wf;}
+eg=dg+ag;
+fg=rp(g);
+z16(g+8);
+gg=fg+(i64)dg;
+if((u64)gg-(u64)Zf<ag)copy_bits_4f4(Zf,gg,ag);
+else memmove(gg,Zf,ag);
+wp(g,fg);
+w8(g+8,eg);
+w8(g+16,cg);
+M=0;
 goto L3;}
-if(r<f){
-if((u8)(*(e+r)-48)<10){
-o=n;
-p=m;
-q=l;
+hg=rp(b);
+ig=r8(b+8);
+if(ig>Yf){
+jg=grow_amortized_2b6(g,ig);
+if(!jg)goto L4;
+kg=r8(g+16);
+lg=r8(g+8);}
+else{
+kg=Xf;
+lg=Wf;}
+mg=lg+ig;
+ng=rp(g);
+z16(g+8);
+og=ng+(i64)lg;
+if((u64)og-(u64)hg<ig)copy_bits_4f4(hg,og,ig);
+else memmove(og,hg,ig);
+wp(g,ng);
+w8(g+8,mg);
+w8(g+16,kg);
+M=0;
+goto L3;
+L4:if(r8(g+8)<=f){
+M=1;
+goto L3;}
+w8(g+8,f);
+M=1;
+goto L3;}}}}}}
+L2:pg=F+1;
+if(u-pg>4){
+A=pg;
 goto L1;}
-x=v;
-y=r;}
-else{
-x=v;
-y=r;}}
-else{
-x=t;
-y=s;}
-z=y+x;
-if(z+17>=f){
-if(z>=f)goto L4;
-if(*(e+z)!=69)goto L4;
-B=z+1;
-if(f==B){
-if(n==3)goto L4;
-C=n;
-D=f;
-goto L5;}
-if(n==3||(f-B<2||*(e+(i64)B)!=46))goto L4;
-C=n;
-D=B;
-goto L5;}
-A=*(e+z);
-if((u8)(A-49)<9){
-l=A;
-m=n;
-n=z;
-goto L2;}
-o=z;
-p=n;
-q=A;
-L1:if(!((o<f)&(q==69)))goto L4;
-E=o+1;
-if(f==E){
-if(p==3)goto L4;
-C=p;
-D=f;}
-else{
-if(p==3||(f-E<2||*(e+(i64)E)!=46))goto L4;
-C=p;
-D=E;}
-L5:append_named_df1(i,b,c,d,e,f,C,D,g);
-goto L6;}}
-L4:append_a0b(i,b,c,d,e,f,g);
-L6:if(*i==0){
-F=r8(g+8)-j;
-if(F>4){
-G=rp(g)+(i64)j;
-H=F>66;
-I=F>18;
-J=F-19;
-K=F-67;
-L=0;
-L7:if(H){
-M=umin64(K,L);
-N=G+(i64)M;
-O=v64_and(v64_eq(v64_at(N+2),v64_splat(100)),v64_eq(v64_at(N+3),v64_splat(58)));
-P=(((((u64)v16_top(O.p[1])<<16)|v16_top(O.p[0]))|((u64)v16_top(O.p[2])<<32))|((u64)v16_top(O.p[3])<<48))>>(L-M);
-Q=P==0?M+64:cttz(P,64)+L;}
-else{
-if(I){
-R=umin64(J,L);
-S=G+(i64)R;
-T=(u64)(v16_eq(v16_at(S+2),splat(100))&v16_eq(v16_at(S+3),splat(58)))>>(L-R);
-Q=T==0?R+16:cttz(T,64)+L;}
-else Q=L;}
-if(F-Q>=5){
-U=G+(i64)Q;
-if(*U==115){
-if(U[1]==116){
-if(U[2]==100){
-if(U[3]==58){
-if(U[4]==58){
-if(Q!=0){
-V=U[-1];
-if(V==58)goto L8;
-if(*((u8*)t_39e2+V)==49)goto L8;}
-if(d!=0){
-W=0;
-X=0;
-Y=0;
-goto L9;}
-if(b[9]&1){
-z24(h);
-path_of_ea7(h,e,f);
-if(*h&1){
-W=0;
-X=0;
-Y=0;
-goto L9;}}
-Z=rewrite_8ff(b+8,c+1544,j,g);
-if(!(Z&1)){
-W=0;
-X=0;
-Y=0;
-goto L9;}
-if(r8(g+8)<=j){
-W=1;
-X=4;
-Y=0;
-goto L9;}
-w8(g+8,j);
-W=1;
-X=4;
-Y=0;
-goto L9;}}}}}}
-L8:aa=Q+1;
-if(F-aa>4){
-L=aa;
-goto L7;}
-W=0;
-X=0;
-Y=0;}
-else{
-W=0;
-X=0;
-Y=0;}}
-else{
-W=1;
-X=i[4];
-Y=r4(i+8);}
-L9:*a=W;
-x4(a+4,X);
-x4(a+8,Y);
-return;
+M=0;}
+else M=0;
+L3:return M;
 }
 
 /* rust_legacy::path::path_of */
@@ -108868,929 +109597,6 @@ L8:z24(a);
 goto L11;}}
 L4:z24(a);
 L11:return;
-}
-
-/* sym_short::shortening::ShorteningRewrites::rewrite */
-static u8 rewrite_8ff(u8* a,u8* b,u64 c,u8* d)
-{
-u8 f[16],i[16];
-A16 u8 e[12],g[32],h[48],j[12],k[32],l[48],m[24],n[24],o[24],p[24];
-u8 q,u,x,D,E,U,ja,qa,Ca,Pa,Qa,eb,mb,ob,ub,vb,zb,Ab,Db,Ib,Yb,lc,vc,Dc,Ec,Gc,Ic,Lc,Sc,Zc,cd,id,od,sd,Hd,Kd,Qd,Td,ae,ie,ne,se,xe,Ee,Se,Ve,Xe,Ze,cf,ff,hf,kf,nf,pf,qf,rf,sf,tf,uf,zf,Lf,Tf;
-u8 *r,*z,*A,*C,*M,*R,*T,*X,*ga,*na,*oa,*pa,*ra,*va,*za,*Ga,*Ha,*Oa,*Va,*ab,*db,*yb,*Fb,*Nb,*Ub,*cc,*dc,*fc,*hc,*jc,*mc,*pc,*sc,*xc,*Jc,*Mc,*Pc,*Uc,*Yc,*ad,*ed,*qd,*td,*yd,*Fd,*Jd,*Ld,*Pd,*Rd,*Vd,*be,*fe,*ge,*te,*ze,*df,*wf,*Df,*Ef,*Jf,*Pf,*Qf,*Rf,*Xf,*Yf;
-u64 s,t,v,w,y,B,F,G,H,I,J,K,L,O,P,Q,S,V,W,Y,Z,aa,ba,ca,da,ea,fa,ha,ia,ka,la,ma,sa,ta,ua,wa,xa,ya,Aa,Ba,Da,Ea,Fa,Ia,Ja,Ka,La,Ma,Na,Ra,Sa,Ta,Ua,Xa,Ya,Za,bb,cb,fb,ib,jb,kb,lb,nb,pb,qb,sb,tb,wb,xb,Bb,Cb,Eb,Gb,Hb,Jb,Kb,Lb,Mb,Ob,Rb,Sb,Tb,Vb,Wb,Xb,Zb,ac,bc,ec,gc,ic,kc,nc,oc,qc,rc,tc,uc,wc,yc,zc,Cc,Fc,Hc,Kc,Nc,Oc,Tc,Vc,Wc,Xc,bd,dd,fd,md,pd,ud,vd,xd,Ad,Bd,Ed,Gd,Id,Md,Nd,Od,Sd,Ud,Wd,Xd,Yd,Zd,ce,de,ee,he,je,ke,le,me,oe,pe,qe,re,ue,ve,we,ye,Ae,Be,Ce,De,Fe,Ge,He,Ie,Je,Ke,Le,Oe,Pe,Qe,Re,Te,Ue,We,Ye,af,bf,ef,gf,jf,lf,mf,of,vf,xf,yf,Af,Bf,Cf,Ff,Gf,Hf,If,Kf,Mf,Nf,Of,Sf,Uf,Vf,Wf;
-v64 N,Wa;
-v16 gb,Me;
-u16 hb,Pb,Qb,Ac,Bc,Qc,Rc,jd,ld,Cd,Dd,Ne;
-u32 rb,gd,hd,kd,nd;
-s_8_64 zd;
-q=*a&1;
-r=rp(d)+(i64)c;
-s=r8(d+8)-c;
-if(r8(b+8)!=0)w8(b+8,0);
-if(q){
-t=r8(b+16);
-if(s>t){
-u=grow_amortized_2b6(b,s);
-if(!u){
-x=1;
-goto L1;}
-v=r8(b+16);
-w=r8(b+8);}
-else{
-v=t;
-w=0;}
-y=w+s;
-z=rp(b);
-z16(b+8);
-A=z+(i64)w;
-if((u64)A-(u64)r<s)copy_bits_4f4(r,A,s);
-else memmove(A,r,s);
-wp(b,z);
-w8(b+8,y);
-w8(b+16,v);
-B=y;
-C=z;}
-else{
-if(s>4){
-D=s>66;
-E=s>18;
-F=s-19;
-G=s-67;
-H=0;
-I=0;
-J=0;
-L2:K=J;
-L3:if(D){
-L=umin64(G,K);
-M=r+(i64)L;
-N=v64_and(v64_eq(v64_at(M+2),v64_splat(100)),v64_eq(v64_at(M+3),v64_splat(58)));
-O=(((((u64)v16_top(N.p[1])<<16)|v16_top(N.p[0]))|((u64)v16_top(N.p[2])<<32))|((u64)v16_top(N.p[3])<<48))>>(K-L);
-P=O==0?L+64:cttz(O,64)+K;}
-else{
-if(E){
-Q=umin64(F,K);
-R=r+(i64)Q;
-S=(u64)(v16_eq(v16_at(R+2),splat(100))&v16_eq(v16_at(R+3),splat(58)))>>(K-Q);
-P=S==0?Q+16:cttz(S,64)+K;}
-else P=K;}
-if(s-P>=5){
-T=r+(i64)P;
-if(*T==115){
-if(T[1]==116){
-if(T[2]==100){
-if(T[3]==58){
-if(T[4]==58){
-if(P!=0){
-U=T[-1];
-if(U==58)goto L4;
-if(*((u8*)t_39e2+U)==49)goto L4;}
-V=P+5;
-W=s-V;
-z24(p);
-if(W>=3){
-X=r+(i64)V;
-if((*((u8*)t_59c0+X[2])&*((u8*)t_d6fe+*X))!=0){
-read_661(p,X,W);
-Y=r8(p);
-Z=r8(p+8);
-aa=r8(p+16);
-ba=Y+V;
-ca=ba+Z+aa;
-if(Y==0&&aa==0){
-da=H;
-ea=ca;
-fa=I;
-goto L5;}
-ga=r+(i64)I;
-ha=V-I;
-ia=r8(b+16);
-if(ha>ia-H){
-ja=grow_amortized_2b6(b,ha);
-if(!ja){
-x=1;
-goto L1;}
-ka=r8(b+16);
-la=r8(b+8);}
-else{
-ka=ia;
-la=H;}
-ma=la+ha;
-na=rp(b);
-z16(b+8);
-oa=na+(i64)la;
-if((u64)oa-(u64)ga<ha)copy_bits_4f4(ga,oa,ha);
-else memmove(oa,ga,ha);
-wp(b,na);
-w8(b+8,ma);
-w8(b+16,ka);
-pa=r+(i64)ba;
-if(Z>ka-ma){
-qa=grow_amortized_2b6(b,Z);
-if(!qa){
-x=1;
-goto L1;}
-ra=rp(b);
-sa=r8(b+16);
-ta=r8(b+8);}
-else{
-ra=na;
-sa=ka;
-ta=ma;}
-ua=ta+Z;
-z16(b+8);
-va=ra+(i64)ta;
-if((u64)va-(u64)pa<Z)copy_bits_4f4(pa,va,Z);
-else memmove(va,pa,Z);
-wp(b,ra);
-w8(b+8,ua);
-w8(b+16,sa);
-da=ua;
-ea=ca;
-fa=ca;
-goto L5;}}
-da=H;
-ea=V;
-fa=I;
-L5:if(s-ea<=4){
-wa=da;
-xa=fa;
-goto L6;}
-H=da;
-I=fa;
-J=ea;
-goto L2;}}}}}}
-L4:ya=P+1;
-if(s-ya>4){
-K=ya;
-goto L3;}
-wa=H;
-xa=I;}
-else{
-wa=0;
-xa=0;}
-L6:za=r+(i64)xa;
-Aa=s-xa;
-Ba=r8(b+16);
-if(Aa>Ba-wa){
-Ca=grow_amortized_2b6(b,Aa);
-if(!Ca){
-x=1;
-goto L1;}
-Da=r8(b+16);
-Ea=r8(b+8);}
-else{
-Da=Ba;
-Ea=wa;}
-Fa=Ea+Aa;
-Ga=rp(b);
-z16(b+8);
-Ha=Ga+(i64)Ea;
-if((u64)Ha-(u64)za<Aa)copy_bits_4f4(za,Ha,Aa);
-else memmove(Ha,za,Aa);
-wp(b,Ga);
-w8(b+8,Fa);
-w8(b+16,Da);
-B=Fa;
-C=Ga;}
-z16(b+24);
-if(r8(b+48)!=0)w8(b+48,0);
-if(r8(b+72)!=0)w8(b+72,0);
-if(r8(b+96)!=0)w8(b+96,0);
-if(B==0){
-Ia=0;
-Ja=0;
-Ka=0;
-goto L7;}
-La=0;
-L8:Ma=r8(b+72);
-if(Ma==0){
-w8(o,0);
-Na=B-La;
-z24(n);
-if(Na>4){
-Oa=C+(i64)La;
-Pa=Na>66;
-Qa=Na>18;
-Ra=Na-19;
-Sa=Na-67;
-Ta=0;
-L9:if(Pa){
-Ua=umin64(Sa,Ta);
-Va=Oa+(i64)Ua;
-Wa=v64_and(v64_eq(v64_at(Va+2),v64_splat(100)),v64_eq(v64_at(Va+3),v64_splat(58)));
-Xa=(((((u64)v16_top(Wa.p[1])<<16)|v16_top(Wa.p[0]))|((u64)v16_top(Wa.p[2])<<32))|((u64)v16_top(Wa.p[3])<<48))>>(Ta-Ua);
-Ya=Xa==0?Ua+64:cttz(Xa,64)+Ta;}
-else{
-if(Qa){
-Za=umin64(Ra,Ta);
-ab=Oa+(i64)Za;
-bb=(u64)(v16_eq(v16_at(ab+2),splat(100))&v16_eq(v16_at(ab+3),splat(58)))>>(Ta-Za);
-Ya=bb==0?Za+16:cttz(bb,64)+Ta;}
-else Ya=Ta;}
-cb=Na-Ya;
-if(cb>=5){
-db=Oa+(i64)Ya;
-if(*db==115){
-if(db[1]==116){
-if(db[2]==100){
-if(db[3]==58){
-if(db[4]==58){
-if(Ya!=0){
-eb=db[-1];
-if(eb==58)goto L10;
-if(*((u8*)t_39e2+eb)==49)goto L10;}
-fb=0;
-L11:if(cb-fb>15){
-gb=v16_at(db+fb);
-hb=cttz(v16_sgt(gb,splat(255))&(v16_ne(gb,splat(36))&(v16_ne(gb,splat(46))&(v16_ne(gb,splat(95))&(v16_ult(v16_add(gb,splat(197)),splat(245))&v16_ult(v16_add(v16_or(gb,splat(32)),splat(133)),splat(230)))))),16);
-ib=fb+hb;
-if(hb>=16){
-fb=ib;
-goto L11;}
-jb=ib;}
-else jb=fb;
-if(jb>=cb){
-lb=jb;
-goto L12;}
-kb=jb;
-L13:mb=*(db+kb);
-if(mb!=58){
-if(*((u8*)t_39e2+mb)!=49){
-lb=kb;
-goto L12;}}
-nb=kb+1;
-if(nb!=cb){
-kb=nb;
-goto L13;}
-lb=cb;
-L12:change_at_a46(n,db,cb,db,lb);
-ob=*n;
-if(ob==0){
-pb=Ya+1;
-if(Na-pb<=4)goto L14;
-qb=pb;
-goto L15;}
-rb=q4(n+2);
-sb=r8(n+8);
-tb=r8(n+16);
-w8(b+24,r8(b+24)+Ya);
-w2(o,ob);
-x4(o+2,rb);
-w8(o+8,sb);
-w8(o+16,tb);
-ub=change_d40(b+24,C,B,lb,o);
-vb=ub;
-goto L16;}}}}}}
-L10:wb=Ya+1;
-if(Na-wb<=4)goto L14;
-qb=wb;
-L15:Ta=qb;
-goto L9;}
-L14:w8(b+24,B);
-xb=B;
-goto L17;}
-yb=C+La;
-zb=*yb;
-if(zb!=58){
-if(*((u8*)t_39e2+zb)!=49){
-switch(zb){
-case 123:case 91:case 60:case 40:Ab=zb==60;
-Bb=La-r8(b+32)+r8(b+48);
-Cb=r8(b+96);
-if(r8(b+80)==Ma){
-Db=grow_amortized_f8b(b+64);
-if(!Db){
-x=1;
-goto L1;}
-Eb=r8(b+72);}
-else Eb=Ma;
-Fb=rp(b+64)+Eb*48;
-*Fb=Ab;
-z31(Fb+1);
-x8(Fb+32,Bb);
-x8(Fb+40,Cb);
-w8(b+72,Eb+1);
-Gb=Bb+1;
-Hb=r8(b+96);
-if(r8(b+104)==Hb){
-Ib=grow_amortized_03f(b+88);
-if(!Ib){
-x=1;
-goto L1;}
-Jb=r8(b+96);}
-else Jb=Hb;
-w8(rp(b+88)+(Jb<<3),Gb);
-w8(b+96,Jb+1);
-Kb=r8(b+24)+1;
-w8(b+24,Kb);
-Lb=Kb;
-goto L18;
-case 62:Mb=Ma-1;
-w8(b+72,Mb);
-Nb=rp(b+64)+Mb*48;
-if(!(*Nb&1)){
-xe=0;
-goto L19;}
-Ob=q8(Nb+40);
-if(Nb[8]!=1){
-if(r8(b+96)>Ob)w8(b+96,Ob);
-we=La+1;
-w8(b+24,we);
-Lb=we;
-goto L18;}
-Pb=q2(Nb+16);
-Qb=q2(Nb+18);
-Rb=q8(Nb+24);
-Sb=q8(Nb+32);
-Tb=r8(b+32);
-Ub=C+(i64)Tb;
-Vb=La-Tb;
-Wb=r8(b+56);
-Xb=r8(b+48);
-if(Vb>Wb-Xb){
-Yb=grow_amortized_2b6(b+40,Vb);
-if(!Yb){
-x=1;
-goto L1;}
-Zb=r8(b+56);
-ac=r8(b+48);}
-else{
-Zb=Wb;
-ac=Xb;}
-bc=ac+Vb;
-cc=rp(b+40);
-z16(b+48);
-dc=cc+(i64)ac;
-if((u64)dc-(u64)Ub<Vb)copy_bits_4f4(Ub,dc,Vb);
-else memmove(dc,Ub,Vb);
-wp(b+40,cc);
-w8(b+48,bc);
-w8(b+56,Zb);
-ec=r8(b+24);
-w8(b+32,ec);
-fc=(u8*)t_1d51+Rb*12;
-gc=ec+1;
-hc=C+(i64)gc;
-ic=B-gc;
-jc=rp(b+88)+(i64)(Ob<<3);
-kc=r8(b+96)-Ob;
-w2(i,Pb);
-w2(i+2,Qb);
-memcpy(i+4,fc,12);
-z12(j);
-z32(k);
-z48(l);
-lc=kc==0;
-if(lc){
-mc=(u8*)t_z0;
-nc=0;
-oc=0;
-pc=(u8*)t_z0;}
-else{
-qc=r8(jc);
-if(kc==1){
-mc=cc+(i64)qc;
-nc=bc-qc;
-oc=0;
-pc=(u8*)t_z0;}
-else{
-rc=r8(jc+8);
-sc=cc+(i64)qc;
-tc=rc-qc-2;
-if(kc>2)uc=r8(jc+16)-2;
-else uc=bc;
-mc=sc;
-nc=tc;
-oc=uc-rc;
-pc=cc+(i64)rc;}}
-vc=(Pb<=Qb)&(Qb<2413);
-wc=vc?(u64)Qb-Pb:0;
-xc=vc?(u8*)t_76ae_2+(i64)Pb:(u8*)t_z0;
-w2(f,Pb);
-w2(f+2,Qb);
-memcpy(f+4,fc,12);
-if(kc>f[8])yc=kc;
-else{
-wp(g,cc);
-w8(g+8,bc);
-wp(g+16,jc);
-w8(g+24,kc);
-wp(h,mc);
-w8(h+8,nc);
-wp(h+16,pc);
-w8(h+24,oc);
-wp(h+32,xc);
-w8(h+40,wc);
-zc=without_defaults_014(g,f,h,kc);
-yc=zc;}
-Ac=r2(i+4);
-Bc=r2(i+6);
-Cc=(((Ac<=Bc)&(Bc<2413))?(u64)Ac-Bc:0)+Sb;
-Dc=i[14];
-Ec=i[15];
-Fc=r8(jc);
-Gc=yc==0;
-if(Gc)Hc=Fc;
-else{
-if(yc<kc)Hc=r8(jc+(yc<<3))-2;
-else Hc=bc;}
-Ic=umin8(Ec,47);
-if(Dc<Ic){
-Jc=cc+(i64)Fc;
-Kc=Hc-Fc;
-Lc=wc==5;
-Mc=Lc?(u8*)t_fc66:(u8*)t_61bc;
-Nc=Lc?4:9;
-Oc=Dc;
-L20:Pc=(u8*)t_d411+Oc*12;
-Qc=r2(Pc+4);
-Rc=r2(Pc+6);
-Sc=(Qc>Rc)|(Rc>2412);
-Tc=(u64)Rc-Qc;
-Uc=Sc?(u8*)t_z0:(u8*)t_76ae_2+(i64)Qc;
-if((Rc==Qc)|Sc){
-Vc=Kc;
-goto L21;}
-Wc=0;
-Xc=Kc;
-Yc=Jc;
-L22:Zc=*(Uc+Wc);
-if(Zc<4){
-switch(Zc){
-case 0:ad=mc;
-bd=nc;
-break;
-case 1:ad=pc;
-bd=oc;
-break;
-case 2:ad=xc;
-bd=wc;
-break;
-case 3:ad=Mc;
-bd=Nc;
-break;
-default:goto L23;
-}
-if(Xc<bd)goto L24;
-cd=parts_equal_58b(Yc,bd,ad,bd);
-if(!cd)goto L24;
-dd=Xc-bd;
-ed=Yc+(i64)bd;}
-else{
-if(Xc==0)goto L24;
-if(*Yc!=Zc)goto L24;
-dd=Xc-1;
-ed=Yc+1;}
-fd=Wc+1;
-if(fd!=Tc){
-Wc=fd;
-Xc=dd;
-Yc=ed;
-goto L22;}
-Vc=dd;
-L21:if(Vc==0){
-gd=q4(Pc);
-hd=q4(Pc+8);
-w4(e,gd);
-w2(e+4,Qc);
-w2(e+6,Rc);
-w4(e+8,hd);
-id=is_read_back_c31(e,hc,ic);
-if(!id)goto L25;
-w4(j,gd);
-w2(j+4,Qc);
-w2(j+6,Rc);
-w4(j+8,hd);
-jd=hd;
-kd=hd>>16;
-ld=kd;
-if(bc>Cc){
-w8(b+48,Cc);
-md=Cc;}
-else md=bc;
-nd=hd&65535;
-od=(hd<158138368)&(jd<=ld);
-pd=od?(u64)kd-nd:0;
-qd=od?(u8*)t_76ae_2+(i64)nd:(u8*)t_z0;
-if(pd>Zb-md){
-sd=grow_amortized_2b6(b+40,pd);
-if(!sd)goto L26;
-td=rp(b+40);
-ud=r8(b+56);
-vd=r8(b+48);}
-else{
-td=cc;
-ud=Zb;
-vd=md;}
-xd=vd+pd;
-z16(b+48);
-yd=td+(i64)vd;
-if((u64)yd-(u64)qd<pd)copy_bits_4f4(qd,yd,pd);
-else memcpy(yd,qd,pd);
-wp(b+40,td);
-w8(b+48,xd);
-w8(b+56,ud);
-zd=append_constructor_c34(j,hc,ic,b+40);
-if(zd.f0==0){
-Ad=zd.f1;
-goto L27;}
-x=1;
-goto L1;}
-L24:Bd=Oc+1;
-if(Bd!=Ic){
-Oc=Bd;
-goto L20;}}
-L25:if(kc==i[8]){
-Cd=r2(i+10);
-Dd=r2(i+12);
-if(lc){
-Ed=0;
-Fd=(u8*)t_z0;}
-else{
-Gd=r8(jc+(i64)(kc<<3)-8);
-Ed=bc-Gd;
-Fd=cc+(i64)Gd;}
-Hd=(Cd>Dd)|(Dd>2412);
-if(!((Dd==Cd)|Hd)){
-Id=(u64)Dd-Cd;
-Jd=Hd?(u8*)t_z0:(u8*)t_76ae_2+(i64)Cd;
-Kd=wc==5;
-Ld=Kd?(u8*)t_fc66:(u8*)t_61bc;
-Md=Kd?4:9;
-Nd=0;
-Od=Ed;
-Pd=Fd;
-L28:Qd=*(Jd+Nd);
-if(Qd<4){
-switch(Qd){
-case 0:Rd=mc;
-Sd=nc;
-break;
-case 1:Rd=pc;
-Sd=oc;
-break;
-case 2:Rd=xc;
-Sd=wc;
-break;
-case 3:Rd=Ld;
-Sd=Md;
-break;
-default:goto L23;
-}
-if(Od<Sd)goto L29;
-Td=parts_equal_58b(Pd,Sd,Rd,Sd);
-if(!Td)goto L29;
-Ud=Od-Sd;
-Vd=Pd+(i64)Sd;}
-else{
-if(Od==0)goto L29;
-if(*Pd!=Qd)goto L29;
-Ud=Od-1;
-Vd=Pd+1;}
-Wd=Nd+1;
-if(Wd!=Id){
-Nd=Wd;
-Od=Ud;
-Pd=Vd;
-goto L28;}
-if(Ud==0){
-wp(k,cc);
-w8(k+8,bc);
-wp(k+16,jc);
-w8(k+24,kc);
-wp(l,mc);
-w8(l+8,nc);
-wp(l+16,pc);
-w8(l+24,oc);
-wp(l+32,xc);
-w8(l+40,wc);
-Xd=without_defaults_014(k,i,l,kc-1);
-if(Xd==0)Yd=Fc;
-else{
-if(Xd>=kc){
-Zd=bc;
-goto L30;}
-Yd=r8(jc+(Xd<<3))-2;}
-if(bc>Yd){
-w8(b+48,Yd);
-Zd=Yd;}
-else Zd=bc;
-L30:if(Zb-Zd<5){
-ae=grow_amortized_2b6(b+40,5);
-if(!ae)goto L26;
-be=rp(b+40);
-ce=r8(b+56);
-de=r8(b+48);}
-else{
-be=cc;
-ce=Zb;
-de=Zd;}
-ee=de+5;
-z16(b+48);
-fe=be+(i64)de;
-if((u64)fe-(u64)(u8*)t_8830<5)copy_bits_4f4((u8*)t_8830,fe,5);
-else memcpy(fe,(u8*)t_8830,5);
-wp(b+40,be);
-w8(b+48,ee);
-w8(b+56,ce);
-ge=be+(i64)Cc;
-he=ee-Cc;
-switch(he){
-case 5:break;
-case 6:ie=*ge;
-memmove(ge,ge+1,5);
-ge[5]=ie;
-break;
-default:je=he-5;
-ke=umin64(je,5);
-le=he-ke;
-turn_through_room_153(ge,he,je,le<4097?le:ke);
-break;}
-me=r8(b+48);
-if(r8(b+56)==me){
-ne=grow_amortized_2b6(b+40,1);
-if(!ne)goto L26;
-oe=r8(b+48);}
-else oe=me;
-*(rp(b+40)+oe)=62;
-pe=oe;
-goto L31;}}}
-L29:if(Gc)qe=Fc;
-else{
-if(yc>=kc){
-re=bc;
-goto L32;}
-qe=r8(jc+(yc<<3))-2;}
-if(bc>qe){
-w8(b+48,qe);
-re=qe;}
-else re=bc;
-L32:if(Zb==re){
-se=grow_amortized_2b6(b+40,1);
-if(!se)goto L26;
-te=rp(b+40);
-ue=r8(b+48);}
-else{
-te=cc;
-ue=re;}
-*(te+ue)=62;
-pe=ue;
-L31:w8(b+48,pe+1);
-Ad=0;
-goto L27;
-L23:NEVER;
-L26:x=1;
-goto L1;
-L27:ve=Ad+1+r8(b+24);
-w8(b+24,ve);
-w8(b+32,ve);
-if(r8(b+96)<=Ob){
-Lb=ve;
-goto L18;}
-w8(b+96,Ob);
-Lb=ve;
-goto L18;
-case 125:case 93:case 41:ye=Ma-1;
-w8(b+72,ye);
-ze=rp(b+64)+ye*48;
-if(*ze&1){
-xe=0;
-goto L19;}
-Ae=q8(ze+40);
-if(r8(b+96)>Ae)w8(b+96,Ae);
-Be=La+1;
-w8(b+24,Be);
-Lb=Be;
-goto L18;
-case 44:if(B-La>1&&*(rp(b+64)+(i64)(Ma*48)-48)&1){
-if(yb[1]==32){
-Ce=La+2+r8(b+48)-r8(b+32);
-De=r8(b+96);
-if(r8(b+104)==De){
-Ee=grow_amortized_03f(b+88);
-if(!Ee){
-x=1;
-goto L1;}
-Fe=r8(b+96);}
-else Fe=De;
-w8(rp(b+88)+(Fe<<3),Ce);
-w8(b+96,Fe+1);
-Ge=r8(b+24)+2;
-goto L33;}}
-Ge=La+1;
-L33:w8(b+24,Ge);
-Lb=Ge;
-goto L18;
-case 45:if(B-La>=2){
-if(yb[1]==62){
-He=2;
-goto L34;}}
-He=1;
-L34:Ie=He+La;
-w8(b+24,Ie);
-Lb=Ie;
-goto L18;
-default:Je=La+1;
-w8(b+24,Je);
-Lb=Je;
-goto L18;
-}}}
-z24(m);
-Ke=B-La;
-Le=0;
-L35:if(Ke-Le>15){
-Me=v16_at(yb+Le);
-Ne=cttz(v16_sgt(Me,splat(255))&(v16_ne(Me,splat(36))&(v16_ne(Me,splat(46))&(v16_ne(Me,splat(95))&(v16_ult(v16_add(Me,splat(197)),splat(245))&v16_ult(v16_add(v16_or(Me,splat(32)),splat(133)),splat(230)))))),16);
-Oe=Le+Ne;
-if(Ne>=16){
-Le=Oe;
-goto L35;}
-Pe=Oe;}
-else Pe=Le;
-if(Pe>=Ke){
-Re=Pe;
-goto L36;}
-Qe=Pe;
-L37:Se=*(yb+Qe);
-if(Se!=58){
-if(*((u8*)t_39e2+Se)!=49){
-Re=Qe;
-goto L36;}}
-Te=Qe+1;
-if(Te!=Ke){
-Qe=Te;
-goto L37;}
-Re=Ke;
-L36:if(Re<5){
-Ue=0;
-goto L38;}
-Ve=0;
-We=0;
-L39:Xe=Ve||*((u8*)t_0f44+(i64)We)!=*(yb+(i64)We);
-Ye=We+1;
-if(Ye!=4){
-Ve=Xe;
-We=Ye;
-goto L39;}
-Ze=0;
-af=0;
-L40:bf=af+1;
-cf=Ze||*((u8*)t_0f44+(i64)bf)!=*(yb+(i64)bf);
-if(bf!=4){
-Ze=cf;
-af=bf;
-goto L40;}
-if(!(Xe|cf)){
-change_at_a46(m,yb,Ke,yb,Re);
-uf=change_d40(b+24,C,B,Re,m);
-vb=uf;
-goto L16;}
-if(Re<8)Ue=0;
-else{
-df=yb+(i64)Re;
-ef=Ke-Re;
-ff=0;
-gf=0;
-L41:hf=ff||*((u8*)t_06e5+(i64)gf)!=*(df-8+(i64)gf);
-jf=gf+1;
-if(jf!=4){
-ff=hf;
-gf=jf;
-goto L41;}
-kf=0;
-lf=0;
-L42:mf=lf+4;
-nf=kf||*((u8*)t_06e5+(i64)mf)!=*(df-8+(i64)mf);
-of=lf+1;
-if(of!=4){
-kf=nf;
-lf=of;
-goto L42;}
-if(hf|nf)Ue=0;
-else{
-if(Re!=8){
-if(*((u8*)t_39e2+df[-9])==49){
-Ue=0;
-goto L38;}}
-if(ef<3){
-switch(ef){
-case 2:pf=df[1];
-qf=*df;
-break;
-case 0:Ue=ef;
-goto L38;
-default:rf=*df;
-goto L43;
-}}
-else{
-sf=*df;
-tf=df[1];
-if((sf==60)&(tf==61)&&df[2]==62){
-Ue=3;
-goto L38;}
-pf=tf;
-qf=sf;}
-if((pf==60)&(qf==60)){
-Ue=2;
-goto L38;}
-if((pf==62)&((qf==62)|(qf==45))){
-Ue=2;
-goto L38;}
-rf=qf;
-L43:Ue=(rf&253)==60;}}
-L38:vf=Re+La+Ue;
-w8(b+24,vf);
-Lb=vf;
-goto L18;
-L16:if(vb!=0){
-x=1;
-goto L1;}
-Lb=r8(b+24);
-L18:if(Lb<B){
-La=Lb;
-goto L8;}
-xb=Lb;
-L17:Ia=r8(b+48);
-Ja=r8(b+32);
-Ka=xb;
-L7:wf=C+(i64)Ja;
-xf=Ka-Ja;
-yf=r8(b+56);
-if(xf>yf-Ia){
-zf=grow_amortized_2b6(b+40,xf);
-if(!zf){
-x=1;
-goto L1;}
-Af=r8(b+56);
-Bf=r8(b+48);}
-else{
-Af=yf;
-Bf=Ia;}
-Cf=Bf+xf;
-Df=rp(b+40);
-z16(b+48);
-Ef=Df+(i64)Bf;
-if((u64)Ef-(u64)wf<xf)copy_bits_4f4(wf,Ef,xf);
-else memmove(Ef,wf,xf);
-wp(b+40,Df);
-w8(b+48,Cf);
-w8(b+56,Af);
-w8(b+32,r8(b+24));
-xe=r8(b+72)==0;
-L19:Ff=r8(d+8);
-if(Ff>c){
-w8(d+8,c);
-Gf=c;}
-else Gf=Ff;
-Hf=r8(d+16);
-If=Hf-Gf;
-if(xe){
-Jf=rp(b+40);
-Kf=r8(b+48);
-if(Kf>If){
-Lf=grow_amortized_2b6(d,Kf);
-if(!Lf){
-x=1;
-goto L1;}
-Mf=r8(d+16);
-Nf=r8(d+8);}
-else{
-Mf=Hf;
-Nf=Gf;}
-Of=Nf+Kf;
-Pf=rp(d);
-z16(d+8);
-Qf=Pf+(i64)Nf;
-if((u64)Qf-(u64)Jf<Kf)copy_bits_4f4(Jf,Qf,Kf);
-else memmove(Qf,Jf,Kf);
-wp(d,Pf);
-w8(d+8,Of);
-w8(d+16,Mf);
-x=0;}
-else{
-Rf=rp(b);
-Sf=r8(b+8);
-if(Sf>If){
-Tf=grow_amortized_2b6(d,Sf);
-if(!Tf){
-x=1;
-goto L1;}
-Uf=r8(d+16);
-Vf=r8(d+8);}
-else{
-Uf=Hf;
-Vf=Gf;}
-Wf=Vf+Sf;
-Xf=rp(d);
-z16(d+8);
-Yf=Xf+(i64)Vf;
-if((u64)Yf-(u64)Rf<Sf)copy_bits_4f4(Rf,Yf,Sf);
-else memmove(Yf,Rf,Sf);
-wp(d,Xf);
-w8(d+8,Wf);
-w8(d+16,Uf);
-x=0;}
-L1:return x;
 }
 
 /* short_names::inlines::Inlines::read */
@@ -111231,385 +111037,582 @@ else memcpy(a,e,d);}
 return;
 }
 
+/* sym_filter::tries::append_text */
+static s_8_8 append_text_8f3(u8* a,u8* b,u8* c,u64 d,u8* e)
+{
+A16 u8 f[12];
+u8 g,h,i,k,p,q,v,z,F,K;
+u64 j,l,n,o,r,s,t,u,w,x,y,A,B,C,D,E,G,H,I,J;
+u8 *m;
+s_8_8 L,M;
+if(d-65537<0xffffffffffff0001u){
+g=0;
+h=0;}
+else{
+i=*c==95;
+if(d==2){
+if(!i){
+g=0;
+h=0;
+goto L1;}
+switch(c[1]){
+case 90:j=0;
+goto L2;
+case 82:break;
+default:g=0;
+h=0;
+goto L1;
+}}
+else{
+if(!i){
+g=0;
+h=0;
+goto L1;}
+switch(c[1]){
+case 90:j=0;
+goto L2;
+case 82:break;
+case 95:switch(c[2]){
+case 90:j=0x100000000u;
+goto L2;
+case 82:j=0x100000001u;
+goto L2;
+default:g=0;
+h=0;
+goto L1;
+}
+break;
+default:g=0;
+h=0;
+goto L1;
+}}
+j=1;
+L2:k=j;
+l=j>>32;
+m=c+(i64)l;
+n=d-l;
+o=r8(e+8);
+z12(f);
+if(n>=21){
+if(m[2]==78){
+p=m[3];
+if((u8)(p-49)>=9){
+t=3;
+u=3;
+v=p;
+goto L3;}
+q=p;
+r=3;
+s=3;
+L4:w=s+9;
+x=s;
+y=0;
+L5:z=*(m+x)-48;
+if(z<10){
+A=y*10+z;
+B=x+1;
+if(B-s<9){
+x=B;
+y=A;
+goto L5;}
+if(w<n){
+if((u8)(*(m+w)-48)<10){
+t=s;
+u=r;
+v=q;
+goto L3;}
+C=A;
+D=w;}
+else{
+C=A;
+D=w;}}
+else{
+C=y;
+D=x;}
+E=D+C;
+if(E+17>=n){
+if(E>=n)goto L6;
+if(*(m+E)!=69)goto L6;
+G=E+1;
+if(n==G){
+if(s==3)goto L6;
+H=s;
+I=n;
+goto L7;}
+if(s==3||(n-G<2||*(m+(i64)G)!=46))goto L6;
+H=s;
+I=G;
+goto L7;}
+F=*(m+E);
+if((u8)(F-49)<9){
+q=F;
+r=s;
+s=E;
+goto L4;}
+t=E;
+u=s;
+v=F;
+L3:if(!((t<n)&(v==69)))goto L6;
+J=t+1;
+if(n==J){
+if(u==3)goto L6;
+H=u;
+I=n;}
+else{
+if(u==3||(n-J<2||*(m+(i64)J)!=46))goto L6;
+H=u;
+I=J;}
+L7:append_named_df1(f,a,b,k,m,n,H,I,e);
+goto L8;}}
+L6:append_a0b(f,a,b,k,m,n,e);
+L8:if(*f==0){
+K=rewrite_or_remove_fa2(a+8,b+1544,k,m,n,o,e);
+if(!(K&1)){
+g=1;
+h=0;
+goto L1;}}
+else{
+if(f[4]!=4){
+g=0;
+h=0;
+goto L1;}}
+g=0;
+h=1;}
+L1:L=(s_8_8){0};L.f0=h;
+M=L;M.f1=g;
+return M;
+}
+
 /* sym_filter::tries::append_parts */
 static s_8_8 append_parts_339(u8* a,u8* b,u8* c,u64 d,u8* e)
 {
-A16 u8 f[12];
-u8 *g,*o,*H,*O,*P,*Q,*Z,*aa,*fa;
-u64 h,k,l,n,p,r,s,v,w,x,y,z,A,B,D,E,G,I,J,L,M,N,R,S,U,W,X,Y,ba,ca,ga,ha,ja;
-u8 i,j,m,q,C,F,K,T,V,da,ea,ia;
-v16 t;
-u16 u;
-s_8_8 ka,la;
-g=c;
-h=d;
-L1:if(h==0){
-i=0;
-j=0;}
+u8 *f,*m,*A,*I,*J,*K,*T,*U,*Z;
+u64 g,j,l,n,o,p,s,t,u,v,w,x,B,C,D,F,G,H,L,M,N,O,Q,R,S,V,W,aa,ba,da;
+u8 h,i,k,z,E,P,X,Y,ca;
+v16 q;
+u16 r;
+s_8_8 y,ea,fa;
+f=c;
+g=d;
+L1:if(g==0){
+h=0;
+i=0;}
 else{
-if((i8)*g>=0){
-g=g+1;
-h=h-1;
+if((i8)*f>=0){
+f=f+1;
+g=g-1;
 goto L1;}
-k=r8(e+8);
-l=k;
-m=0;
-n=0;
-L2:o=c+(i64)n;
-p=d-n;
-q=*o;
-if(*((u8*)t_e4d8+q)<50){
-r=0;
+j=r8(e+8);
+k=0;
+l=0;
+L2:m=c+(i64)l;
+n=d-l;
+if(*((u8*)t_e4d8+*m)<50){
+o=0;
 goto L3;}
-s=0;
-L4:if(p-s>15){
-t=v16_at(o+s);
-u=cttz(v16_ne(t,splat(36))&(v16_ne(t,splat(46))&(v16_ne(t,splat(95))&(v16_ult(v16_add(t,splat(198)),splat(246))&v16_ult(v16_add(v16_or(t,splat(32)),splat(133)),splat(230))))),16);
-v=s+u;
-if(u>=16){
-s=v;
+p=0;
+L4:if(n-p>15){
+q=v16_at(m+p);
+r=cttz(v16_ne(q,splat(36))&(v16_ne(q,splat(46))&(v16_ne(q,splat(95))&(v16_ult(v16_add(q,splat(198)),splat(246))&v16_ult(v16_add(v16_or(q,splat(32)),splat(133)),splat(230))))),16);
+s=p+r;
+if(r>=16){
+p=s;
 goto L4;}
-w=v;}
-else w=s;
-if(w>=p){
-r=w;
+t=s;}
+else t=p;
+if(t>=n){
+o=t;
 goto L3;}
-x=w;
-L5:if(*((u8*)t_e4d8+*(o+x))<50)r=x;
+u=t;
+L5:if(*((u8*)t_e4d8+*(m+u))<50)o=u;
 else{
-y=x+1;
-if(y!=p){
-x=y;
+v=u+1;
+if(v!=n){
+u=v;
 goto L5;}
-r=p;}
-L3:z=r;
-L6:if(z==0)A=l;
-else{
-B=z-1;
-if(*(o+B)==46){
-z=B;
-goto L6;}
-if(z-65537<0xffffffffffff0001u)A=l;
-else{
-C=q==95;
-if(z==2){
-if(!C){
-A=l;
-goto L7;}
-switch(o[1]){
-case 90:D=0;
-goto L8;
-case 82:break;
-default:A=l;
-goto L7;
-}}
-else{
-if(!C){
-A=l;
-goto L7;}
-switch(o[1]){
-case 90:D=0;
-goto L8;
-case 82:break;
-case 95:switch(o[2]){
-case 90:D=0x100000000u;
-goto L8;
-case 82:D=0x100000001u;
-goto L8;
-default:A=l;
-goto L7;
-}
-break;
-default:A=l;
-goto L7;
-}}
-D=1;
-L8:E=D>>32;
-z12(f);
-append_d61(f,a,b,D,o+(i64)E,z-E,e);
-F=*f==0;
-if(!(F||f[4]!=4)){
-i=0;
-j=1;
-goto L9;}
-G=r8(e+8);
-if(F){
-H=o+(i64)z;
-I=r-z;
-J=r8(e+16);
-if(I>J-G){
-K=grow_amortized_2b6(e,I);
-if(!K){
-i=0;
-j=1;
-goto L9;}
-L=r8(e+16);
-M=r8(e+8);}
-else{
-L=J;
-M=G;}
-N=M+I;
-O=rp(e);
-z16(e+8);
-P=O+(i64)M;
-if((u64)P-(u64)H<I){
-copy_bits_4f4(H,P,I);
-Q=O;
-R=N;
-S=L;
-T=1;
-goto L10;}
-memmove(P,H,I);
-Q=O;
-R=N;
-S=L;
-T=1;
-goto L10;}
-A=G;}}
-L7:U=r8(e+16);
-if(r>U-A){
-V=grow_amortized_2b6(e,r);
-if(!V){
-i=0;
-j=1;
-goto L9;}
-W=r8(e+16);
-X=r8(e+8);}
-else{
-W=U;
-X=A;}
-Y=X+r;
-Z=rp(e);
-z16(e+8);
-aa=Z+(i64)X;
-if((u64)aa-(u64)o<r){
-copy_bits_4f4(o,aa,r);
-Q=Z;
-R=Y;
-S=W;
-T=0;}
-else{
-memmove(aa,o,r);
-Q=Z;
-R=Y;
-S=W;
-T=0;}
-L10:wp(e,Q);
-w8(e+8,R);
-w8(e+16,S);
-if(r==p){
-ba=R;
-ca=p;}
-else{
-da=*(o+r);
-if(S==R){
-ea=grow_amortized_2b6(e,1);
-if(!ea){
-i=0;
-j=1;
-goto L9;}
-fa=rp(e);
-ga=r8(e+8);}
-else{
-fa=Q;
-ga=R;}
-*(fa+ga)=da;
-ha=ga+1;
-w8(e+8,ha);
-ba=ha;
-ca=r+1;}
-ia=m|T;
-ja=ca+n;
-if(ja<d){
-l=ba;
-m=ia;
-n=ja;
-goto L2;}
-if(ia){
+o=n;}
+L3:w=o;
+L6:if(w!=0){
+x=w-1;
+if(*(m+x)==46){
+w=x;
+goto L6;}}
+y=append_text_8f3(a,b,m,w,e);
+if(y.f0==0){
+z=y.f1&1;
+if(z){
+A=m+(i64)w;
+B=o-w;
+C=r8(e+16);
+D=r8(e+8);
+if(B>C-D){
+E=grow_amortized_2b6(e,B);
+if(!E){
+h=0;
 i=1;
-j=0;}
+goto L7;}
+F=r8(e+16);
+G=r8(e+8);}
 else{
-if(ba>k){
-w8(e+8,k);
-i=0;
-j=0;}
+F=C;
+G=D;}
+H=G+B;
+I=rp(e);
+z16(e+8);
+J=I+(i64)G;
+if((u64)J-(u64)A<B){
+copy_bits_4f4(A,J,B);
+K=I;
+L=H;
+M=F;}
 else{
-i=0;
-j=0;}}}
-L9:ka=(s_8_8){0};ka.f0=j;
-la=ka;la.f1=i;
-return la;
+memmove(J,A,B);
+K=I;
+L=H;
+M=F;}}
+else{
+N=r8(e+16);
+O=r8(e+8);
+if(o>N-O){
+P=grow_amortized_2b6(e,o);
+if(!P){
+h=0;
+i=1;
+goto L7;}
+Q=r8(e+16);
+R=r8(e+8);}
+else{
+Q=N;
+R=O;}
+S=R+o;
+T=rp(e);
+z16(e+8);
+U=T+(i64)R;
+if((u64)U-(u64)m<o){
+copy_bits_4f4(m,U,o);
+K=T;
+L=S;
+M=Q;}
+else{
+memmove(U,m,o);
+K=T;
+L=S;
+M=Q;}}
+wp(e,K);
+w8(e+8,L);
+w8(e+16,M);
+if(o==n){
+V=L;
+W=n;}
+else{
+X=*(m+o);
+if(M==L){
+Y=grow_amortized_2b6(e,1);
+if(!Y){
+h=0;
+i=1;
+goto L7;}
+Z=rp(e);
+aa=r8(e+8);}
+else{
+Z=K;
+aa=L;}
+*(Z+aa)=X;
+ba=aa+1;
+w8(e+8,ba);
+V=ba;
+W=o+1;}
+ca=k|z;
+da=W+l;
+if(da<d){
+k=ca;
+l=da;
+goto L2;}
+if(ca){
+h=1;
+i=0;}
+else{
+if(V>j){
+w8(e+8,j);
+h=0;
+i=0;}
+else{
+h=0;
+i=0;}}}
+else{
+h=0;
+i=1;}}
+L7:ea=(s_8_8){0};ea.f0=i;
+fa=ea;fa.f1=h;
+return fa;
+}
+
+/* sym_filter::words::push_text */
+static s_8_8 push_text_2e9(u8* a,u8* b,u8* c,u64 d,u8 e,u32 f,u8* g)
+{
+A16 u8 h[12];
+u8 *i,*P,*Q;
+u64 j,k,n,o,p,q,s,t,u,w,x,y,z,A,C,D,E,F,J,K,M,N,O;
+u8 l,m,r,v,B,G,H,I,L;
+s_8_8 R,S;
+i=c+(i64)f;
+j=d-f;
+k=r8(g+8);
+z12(h);
+if(j>=21){
+if(i[2]==78){
+l=i[3];
+if((u8)(l-49)>=9){
+p=3;
+q=3;
+r=l;
+goto L1;}
+m=l;
+n=3;
+o=3;
+L2:s=o+9;
+t=o;
+u=0;
+L3:v=*(i+t)-48;
+if(v<10){
+w=u*10+v;
+x=t+1;
+if(x-o<9){
+t=x;
+u=w;
+goto L3;}
+if(s<j){
+if((u8)(*(i+s)-48)<10){
+p=o;
+q=n;
+r=m;
+goto L1;}
+y=w;
+z=s;}
+else{
+y=w;
+z=s;}}
+else{
+y=u;
+z=t;}
+A=z+y;
+if(A+17>=j){
+if(A>=j)goto L4;
+if(*(i+A)!=69)goto L4;
+C=A+1;
+if(j==C){
+if(o==3)goto L4;
+D=o;
+E=j;
+goto L5;}
+if(o==3||(j-C<2||*(i+(i64)C)!=46))goto L4;
+D=o;
+E=C;
+goto L5;}
+B=*(i+A);
+if((u8)(B-49)<9){
+m=B;
+n=o;
+o=A;
+goto L2;}
+p=A;
+q=o;
+r=B;
+L1:if(!((p<j)&(r==69)))goto L4;
+F=p+1;
+if(j==F){
+if(q==3)goto L4;
+D=q;
+E=j;}
+else{
+if(q==3||(j-F<2||*(i+(i64)F)!=46))goto L4;
+D=q;
+E=F;}
+L5:append_named_df1(h,a,b,e,i,j,D,E,g);
+goto L6;}}
+L4:append_a0b(h,a,b,e,i,j,g);
+L6:if(*h==0){
+G=rewrite_or_remove_fa2(a+8,b+1544,e,i,j,k,g);
+H=G^1;
+I=G;}
+else{
+if(h[4]==4){
+H=0;
+I=1;}
+else{
+J=r8(g+16);
+K=r8(g+8);
+if(d>J-K){
+L=grow_amortized_2b6(g,d);
+if(!L){
+H=0;
+I=1;
+goto L7;}
+M=r8(g+16);
+N=r8(g+8);}
+else{
+M=J;
+N=K;}
+O=N+d;
+P=rp(g);
+z16(g+8);
+Q=P+(i64)N;
+if((u64)Q-(u64)c<d)copy_bits_4f4(c,Q,d);
+else memmove(Q,c,d);
+wp(g,P);
+w8(g+8,O);
+w8(g+16,M);
+H=0;
+I=0;}}
+L7:R=(s_8_8){0};R.f0=I;
+S=R;S.f1=H;
+return S;
 }
 
 /* sym_calls::counted::end_segment */
 static u8 end_segment_337(u8* a,u8* b,u8* c,u8* d,u8* e)
 {
-A16 u8 f[12],g[48];
-u128 h,i,U,ea;
-u8 *j,*v,*w,*x,*E,*F,*K,*R,*S,*ca,*da;
-u64 k,m,n,o,p,q,s,t,u,y,z,B,C,D,H,I,J,L,M,O,P,Q,T,V,W,X,Z,aa,ba;
-u8 l,r,A,G,N,Y;
-z48(g);
+A16 u8 f[48];
+u128 g,h,K,U;
+u8 *i,*n,*u,*v,*A,*H,*I,*S,*T;
+u64 j,l,o,p,r,s,t,x,y,z,B,C,E,F,G,J,L,M,N,P,Q,R;
+u8 k,q,w,D,O;
+s_8_8 m;
+z48(f);
 if(*c!=2){
-i=r16(c+32);
-j=rp(c+8);
-k=r8(c+16);
-if(k-65537>=0xffffffffffff0001u){
-l=*j==95;
-if(k==2){
-if(!l)goto L1;
-switch(j[1]){
-case 90:m=0;
+h=r16(c+32);
+i=rp(c+8);
+j=r8(c+16);
+if(j-65537>=0xffffffffffff0001u){
+k=*i==95;
+if(j==2){
+if(!k)goto L1;
+switch(i[1]){
+case 90:l=0;
 goto L2;
 case 82:break;
 default:goto L1;
 }}
 else{
-if(!l)goto L1;
-switch(j[1]){
-case 90:m=0;
+if(!k)goto L1;
+switch(i[1]){
+case 90:l=0;
 goto L2;
 case 82:break;
-case 95:switch(j[2]){
-case 90:m=0x100000000u;
+case 95:switch(i[2]){
+case 90:l=0x100000000u;
 goto L2;
-case 82:m=0x100000001u;
+case 82:l=0x100000001u;
 goto L2;
 default:goto L1;
 }
 break;
 default:goto L1;
 }}
-m=1;
-L2:n=m>>32;
-z12(f);
-append_d61(f,a,b,m,j+(i64)n,k-n,d);
-if(*f!=0){
-if(f[4]!=4){
-p=r8(d+16);
-q=r8(d+8);
-if(k>p-q){
-r=grow_amortized_2b6(d,k);
-if(!r)goto L3;
-s=r8(d+16);
-t=r8(d+8);}
-else{
-s=p;
-t=q;}
-u=t+k;
-v=rp(d);
-z16(d+8);
-w=v+(i64)t;
-if((u64)w-(u64)j<k)copy_bits_4f4(j,w,k);
-else memmove(w,j,k);
-wp(d,v);
-w8(d+8,u);
-w8(d+16,s);
-o=16;
+l=1;
+L2:m=push_text_2e9(a,b,i,j,l,l>>32,d);
+if(m.f0!=0)goto L3;
+w8(c+56,uadd64(r8(c+56),1));
+n=c+56+(i64)(u64)((m.f1&1)?8:16);
+w8(n,uadd64(r8(n),1));
 goto L4;}
-L3:goto L5;}
-o=8;
-L4:w8(c+56,uadd64(r8(c+56),1));
-x=c+56+(i64)o;
-w8(x,uadd64(r8(x),1));
-goto L6;}
-L1:y=r8(d+16);
-z=r8(d+8);
-if(k>y-z){
-A=grow_amortized_2b6(d,k);
-if(!A)goto L5;
-B=r8(d+16);
-C=r8(d+8);}
+L1:o=r8(d+16);
+p=r8(d+8);
+if(j>o-p){
+q=grow_amortized_2b6(d,j);
+if(!q)goto L3;
+r=r8(d+16);
+s=r8(d+8);}
 else{
-B=y;
-C=z;}
-D=C+k;
-E=rp(d);
+r=o;
+s=p;}
+t=s+j;
+u=rp(d);
 z16(d+8);
-F=E+(i64)C;
-if((u64)F-(u64)j<k)copy_bits_4f4(j,F,k);
-else memmove(F,j,k);
-wp(d,E);
-w8(d+8,D);
-w8(d+16,B);
-L6:if(r8(c+16)!=0)w8(c+16,0);
+v=u+(i64)s;
+if((u64)v-(u64)i<j)copy_bits_4f4(i,v,j);
+else memmove(v,i,j);
+wp(d,u);
+w8(d+8,t);
+w8(d+16,r);
+L4:if(r8(c+16)!=0)w8(c+16,0);
 z18(c+32);
-h=i;
-goto L7;}
-end_within_916(g,c,a,b,d);
-if(*g==0){
-h=r16(g+16);
-goto L7;}
-L5:G=1;
-goto L8;
-L7:c[50]=0;
-H=r8(d+8);
-I=r8(e+32);
-if(I>(H^18446744073709551615u))G=1;
+g=h;
+goto L5;}
+end_within_916(f,c,a,b,d);
+if(*f==0){
+g=r16(f+16);
+goto L5;}
+L3:w=1;
+goto L6;
+L5:c[50]=0;
+x=r8(d+8);
+y=r8(e+32);
+if(y>(x^18446744073709551615u))w=1;
 else{
-J=I+H;
-if(J<=r8(e+24)){
-K=rp(d);
-L=r8(e+16);
-M=r8(e+8);
-if(H>L-M){
-N=grow_amortized_2b6(e,H);
-if(!N){
-G=1;
-goto L8;}
-O=r8(e+16);
-P=r8(e+8);}
+z=y+x;
+if(z<=r8(e+24)){
+A=rp(d);
+B=r8(e+16);
+C=r8(e+8);
+if(x>B-C){
+D=grow_amortized_2b6(e,x);
+if(!D){
+w=1;
+goto L6;}
+E=r8(e+16);
+F=r8(e+8);}
 else{
-O=L;
-P=M;}
-Q=P+H;
-R=rp(e);
+E=B;
+F=C;}
+G=F+x;
+H=rp(e);
 z16(e+8);
-S=R+(i64)P;
-if((u64)S-(u64)K<H)copy_bits_4f4(K,S,H);
-else memmove(S,K,H);
-wp(e,R);
-w8(e+8,Q);
-w8(e+16,O);}
-w8(e+32,J);
+I=H+(i64)F;
+if((u64)I-(u64)A<x)copy_bits_4f4(A,I,x);
+else memmove(I,A,x);
+wp(e,H);
+w8(e+8,G);
+w8(e+16,E);}
+w8(e+32,z);
 if(r8(d+8)!=0)w8(d+8,0);
-if(h==0)G=0;
+if(g==0)w=0;
 else{
-T=r8(e+32);
-U=0;
-L9:if(T==18446744073709551615u)G=1;
+J=r8(e+32);
+K=0;
+L7:if(J==18446744073709551615u)w=1;
 else{
-V=T+1;
-if(V<=r8(e+24)){
-W=r8(e+16);
-X=r8(e+8);
-if(W==X){
-Y=grow_amortized_2b6(e,1);
-if(!Y){
-G=1;
-goto L8;}
-Z=r8(e+16);
-aa=r8(e+8);}
+L=J+1;
+if(L<=r8(e+24)){
+M=r8(e+16);
+N=r8(e+8);
+if(M==N){
+O=grow_amortized_2b6(e,1);
+if(!O){
+w=1;
+goto L6;}
+P=r8(e+16);
+Q=r8(e+8);}
 else{
-Z=W;
-aa=X;}
-ba=aa+1;
-ca=rp(e);
+P=M;
+Q=N;}
+R=Q+1;
+S=rp(e);
 z16(e+8);
-da=ca+(i64)aa;
-if((u64)da==(u64)(u8*)t_cdb4)copy_bits_4f4((u8*)t_cdb4,da,1);
-else *da=46;
-wp(e,ca);
-w8(e+8,ba);
-w8(e+16,Z);}
-w8(e+32,V);
-ea=U+1;
-if(ea<h){
-T=V;
-U=ea;
-goto L9;}
-G=0;}}}
-L8:return G;
+T=S+(i64)Q;
+if((u64)T==(u64)(u8*)t_cdb4)copy_bits_4f4((u8*)t_cdb4,T,1);
+else *T=46;
+wp(e,S);
+w8(e+8,R);
+w8(e+16,P);}
+w8(e+32,L);
+U=K+1;
+if(U<g){
+J=L;
+K=U;
+goto L7;}
+w=0;}}}
+L6:return w;
 }
 
 /* sym_filter::words::Words::end_within */
@@ -112271,3038 +112274,2876 @@ L8:return G;
 /* sym_filter::words::Words::end_within */
 static void end_within_3fd(u8* a,u8* b,u8* c,u8* d,u8* e)
 {
-A16 u8 f[12],g[12],h[12];
-u128 i;
-u8 *j,*o,*x,*y,*z,*W,*ea,*fa,*sa,*ta,*Ba,*Ca;
-u64 k,n,p,q,r,s,u,v,w,A,G,J,K,L,T,U,X,Y,Z,ba,ca,da,ha,ia,ma,na,pa,qa,ra,ua,va,wa,ya,za,Aa;
-u8 l,m,t,B,C,D,E,F,H,I,M,N,O,P,R,S,V,aa,ga,ja,ka,oa,xa;
-s_8_8 Q,la;
-i=r16(b+32);
-j=rp(b+8);
-k=r8(b+16);
-l=b[48];
-m=b[49];
-if(!((k<2)|(l!=0))){
-if(*j==95){
-if(((u8)(j[1]-82)&247)==0){
-n=k;
-o=j;
-p=0;
+A16 u8 f[12];
+u128 g;
+u8 *h,*m,*v,*w,*x,*G,*P,*X,*Y,*ia,*ja,*ra,*sa;
+u64 i,l,n,o,p,q,s,t,u,y,A,C,D,E,H,I,Q,R,S,U,V,W,ca,da,fa,ga,ha,ka,la,ma,oa,pa,qa;
+u8 j,k,r,z,B,F,J,K,L,N,T,ba,ea,na;
+s_8_8 M,O,Z,aa;
+g=r16(b+32);
+h=rp(b+8);
+i=r8(b+16);
+j=b[48];
+k=b[49];
+if(!((i<2)|(j!=0))){
+if(*h==95){
+if(((u8)(h[1]-82)&247)==0){
+l=i;
+m=h;
+n=0;
 goto L1;}}}
-q=mark_behind_724(j,k,l,m);
-if(q==0){
-n=k;
-o=j;
-p=0;}
+o=mark_behind_724(h,i,j,k);
+if(o==0){
+l=i;
+m=h;
+n=0;}
 else{
-r=r8(e+16);
-s=r8(e+8);
-if(q>r-s){
-t=grow_amortized_2b6(e,q);
-if(!t){
+p=r8(e+16);
+q=r8(e+8);
+if(o>p-q){
+r=grow_amortized_2b6(e,o);
+if(!r){
 *a=1;
 z32(a+16);
 goto L2;}
-u=r8(e+16);
-v=r8(e+8);}
+s=r8(e+16);
+t=r8(e+8);}
 else{
-u=r;
-v=s;}
-w=v+q;
-x=rp(e);
+s=p;
+t=q;}
+u=t+o;
+v=rp(e);
 z16(e+8);
-y=x+(i64)v;
-if((u64)y-(u64)j<q)copy_bits_4f4(j,y,q);
-else memmove(y,j,q);
-wp(e,x);
-w8(e+8,w);
-w8(e+16,u);
-n=r8(b+16);
-o=rp(b+8);
-p=q;}
-L1:z=o+(i64)p;
-A=n-p;
-if(A-65537>=0xffffffffffff0001u){
-B=A==2;
-C=*z;
-D=C==95;
-if(B){
-if(!D)goto L3;
-E=z[1];
-switch(E){
-case 90:F=E;
-G=0;
+w=v+(i64)t;
+if((u64)w-(u64)h<o)copy_bits_4f4(h,w,o);
+else memmove(w,h,o);
+wp(e,v);
+w8(e+8,u);
+w8(e+16,s);
+l=r8(b+16);
+m=rp(b+8);
+n=o;}
+L1:x=m+(i64)n;
+y=l-n;
+if(y-65537>=0xffffffffffff0001u){
+z=*x==95;
+if(y==2){
+if(!z)goto L3;
+switch(x[1]){
+case 90:A=0;
 goto L4;
 case 82:break;
 default:goto L3;
 }}
 else{
-if(!D)goto L3;
-H=z[1];
-switch(H){
-case 90:F=H;
-G=0;
+if(!z)goto L3;
+switch(x[1]){
+case 90:A=0;
 goto L4;
 case 82:break;
-case 95:switch(z[2]){
-case 90:F=95;
-G=0x100000000u;
+case 95:switch(x[2]){
+case 90:A=0x100000000u;
 goto L4;
-case 82:F=95;
-G=0x100000001u;
+case 82:A=0x100000001u;
 goto L4;
 default:goto L3;
 }
 break;
 default:goto L3;
 }}
-F=82;
-G=1;
-L4:I=G;
-J=G>>32;
-K=A;
-L5:if(K!=0){
-L=K-1;
-M=*(z+L);
-if(!((M!=46)&((i8)M>-1))){
-K=L;
+A=1;
+L4:B=A;
+C=A>>32;
+D=y;
+L5:if(D!=0){
+E=D-1;
+F=*(x+E);
+if(!((F!=46)&((i8)F>-1))){
+D=E;
 goto L5;}}
-if(K!=A){
-if(K-65537<0xffffffffffff0001u)S=C;
-else{
-if(K==2){
-if(!D){
-S=C;
-goto L6;}
-switch(F){
-case 90:T=0;
-goto L7;
-case 82:break;
-default:S=95;
-goto L6;
-}}
-else{
-if(!D){
-S=C;
-goto L6;}
-switch(F){
-case 90:T=0;
-goto L7;
-case 82:break;
-case 95:switch(z[2]){
-case 90:T=0x100000000u;
-goto L7;
-case 82:T=0x100000001u;
-goto L7;
-default:S=95;
-goto L6;
-}
-break;
-default:NEVER;
-}}
-T=1;
-L7:U=T>>32;
-z12(g);
-append_018(g,c,d,T,z+(i64)U,K-U,e);
-V=*g==0;
-if(!(V||g[4]!=4))goto L8;
-if(V){
-W=z+(i64)K;
-X=A-K;
-Y=r8(e+16);
-Z=r8(e+8);
-if(X>Y-Z){
-aa=grow_amortized_2b6(e,X);
-if(!aa)goto L8;
-ba=r8(e+16);
-ca=r8(e+8);}
-else{
-ba=Y;
-ca=Z;}
-da=ca+X;
-ea=rp(e);
-z16(e+8);
-fa=ea+(i64)ca;
-if((u64)fa-(u64)W<X)copy_bits_4f4(W,fa,X);
-else memmove(fa,W,X);
-wp(e,ea);
-w8(e+8,da);
-w8(e+16,ba);
-goto L9;}
-S=*z;}
-L6:ga=S==95;
-if(B){
-if(!ga)goto L10;
-switch(z[1]){
-case 90:ha=0;
-goto L11;
-case 82:break;
-default:goto L10;
-}}
-else{
-if(!ga)goto L10;
-switch(z[1]){
-case 90:ha=0;
-goto L11;
-case 82:break;
-case 95:switch(z[2]){
-case 90:ha=0x100000000u;
-goto L11;
-case 82:ha=0x100000001u;
-goto L11;
-default:goto L10;
-}
-break;
-default:goto L10;
-}}
-ha=1;
-L11:ia=ha>>32;
+if(D==y){
+G=x+(i64)C;
+H=y-C;
 z12(f);
-append_018(f,c,d,ha,z+(i64)ia,A-ia,e);
-ja=*f==0;
-ka=f[4]==4;
-if(ja||ka){
-P=!ja&&ka;
-goto L12;}
-L10:la=append_parts_0b0(c,d,z,A,e);
-if(la.f0!=0)goto L8;
-R=la.f1;
-goto L13;}
-z12(h);
-append_018(h,c,d,I,z+(i64)J,A-J,e);
-N=*h==0;
-O=h[4]==4;
-if(!(N||O)){
-Q=append_parts_0b0(c,d,z,A,e);
-if(Q.f0!=0)goto L8;
-R=Q.f1;
-goto L13;}
-P=!N&&O;
-L12:if(P)goto L8;
-R=!P;
-L13:if(!(R&1)){
-ma=r8(e+16);
-na=r8(e+8);
-if(A>ma-na){
-oa=grow_amortized_2b6(e,A);
-if(!oa)goto L8;
-pa=r8(e+16);
-qa=r8(e+8);}
+I=r8(e+8);
+append_a0b(f,c,d,B,G,H,e);
+if(*f!=0){
+if(f[4]==4)goto L6;
+M=append_parts_0b0(c,d,x,y,e);
+if(M.f0!=0)goto L6;
+N=M.f1;
+goto L7;}
+J=rewrite_or_remove_fa2(c+8,d+1544,B,G,H,I,e);
+K=J^1;
+L=J;}
 else{
-pa=ma;
-qa=na;}
-ra=qa+A;
-sa=rp(e);
+O=append_text_33c(c,d,x,D,e);
+if(O.f0!=0)goto L6;
+if(O.f1&1){
+P=x+(i64)D;
+Q=y-D;
+R=r8(e+16);
+S=r8(e+8);
+if(Q>R-S){
+T=grow_amortized_2b6(e,Q);
+if(!T)goto L6;
+U=r8(e+16);
+V=r8(e+8);}
+else{
+U=R;
+V=S;}
+W=V+Q;
+X=rp(e);
 z16(e+8);
-ta=sa+(i64)qa;
-if((u64)ta-(u64)z<A)copy_bits_4f4(z,ta,A);
-else memmove(ta,z,A);
-wp(e,sa);
-w8(e+8,ra);
-w8(e+16,pa);
+Y=X+(i64)V;
+if((u64)Y-(u64)P<Q)copy_bits_4f4(P,Y,Q);
+else memmove(Y,P,Q);
+wp(e,X);
+w8(e+8,W);
+w8(e+16,U);
+goto L8;}
+Z=append_text_33c(c,d,x,y,e);
+if(Z.f0!=0)goto L6;
+if(Z.f1&1)goto L8;
+aa=append_parts_0b0(c,d,x,y,e);
+ba=aa.f0;
+K=ba==0?aa.f1:0;
+L=ba;}
+if(L!=0)goto L6;
+N=K;
+L7:if(N&1)goto L8;
+ca=r8(e+16);
+da=r8(e+8);
+if(y>ca-da){
+ea=grow_amortized_2b6(e,y);
+if(!ea)goto L6;
+fa=r8(e+16);
+ga=r8(e+8);}
+else{
+fa=ca;
+ga=da;}
+ha=ga+y;
+ia=rp(e);
+z16(e+8);
+ja=ia+(i64)ga;
+if((u64)ja-(u64)x<y)copy_bits_4f4(x,ja,y);
+else memmove(ja,x,y);
+wp(e,ia);
+w8(e+8,ha);
+w8(e+16,fa);
 w8(b+56,uadd64(r8(b+56),1));
 w8(b+72,uadd64(r8(b+72),1));
-ua=A;
-goto L14;}
-L9:w8(b+56,uadd64(r8(b+56),1));
-w8(b+64,uadd64(r8(b+64),1));
-ua=0;
-goto L14;
-L8:*a=1;
+ka=y;
+goto L9;
+L6:*a=1;
 z32(a+16);
-goto L2;}
-L3:va=r8(e+16);
-wa=r8(e+8);
-if(A>va-wa){
-xa=grow_amortized_2b6(e,A);
-if(!xa){
+goto L2;
+L8:w8(b+56,uadd64(r8(b+56),1));
+w8(b+64,uadd64(r8(b+64),1));
+ka=0;
+goto L9;}
+L3:la=r8(e+16);
+ma=r8(e+8);
+if(y>la-ma){
+na=grow_amortized_2b6(e,y);
+if(!na){
 *a=1;
 z32(a+16);
 goto L2;}
-ya=r8(e+16);
-za=r8(e+8);}
+oa=r8(e+16);
+pa=r8(e+8);}
 else{
-ya=va;
-za=wa;}
-Aa=za+A;
-Ba=rp(e);
+oa=la;
+pa=ma;}
+qa=pa+y;
+ra=rp(e);
 z16(e+8);
-Ca=Ba+(i64)za;
-if((u64)Ca-(u64)z<A)copy_bits_4f4(z,Ca,A);
-else memmove(Ca,z,A);
-wp(e,Ba);
-w8(e+8,Aa);
-w8(e+16,ya);
-ua=0;
-L14:if(r8(b+16)!=0)w8(b+16,0);
+sa=ra+(i64)pa;
+if((u64)sa-(u64)x<y)copy_bits_4f4(x,sa,y);
+else memmove(sa,x,y);
+wp(e,ra);
+w8(e+8,qa);
+w8(e+16,oa);
+ka=0;
+L9:if(r8(b+16)!=0)w8(b+16,0);
 z18(b+32);
 *a=0;
-x16(a+16,i);
-x8(a+32,ua);
+x16(a+16,g);
+x8(a+32,ka);
 x8(a+40,0);
 L2:return;
 }
 
-/* sym_short::rewriting::RewritingDemangler::append */
-static void append_018(u8* a,u8* b,u8* c,u8 d,u8* e,u64 f,u8* g)
+/* sym_filter::tries::append_text */
+static s_8_8 append_text_33c(u8* a,u8* b,u8* c,u64 d,u8* e)
 {
-A16 u8 h[24],i[12];
-u64 j,k,o,p,q,r,u,v,w,y,F;
-u8 *l,*s,*x,*z;
-u8 m,n,A,B,E;
-v64 t;
-u32 C,D;
-z12(i);
-j=r8(g+8);
-append_a0b(i,b,c,d,e,f,g);
-if(*i==0){
-k=r8(g+8)-j;
-if(k>4){
-l=rp(g)+(i64)j;
-m=k>66;
-n=k>18;
-o=k-19;
-p=k-67;
-q=0;
-L1:if(m){
-r=umin64(p,q);
-s=l+(i64)r;
-t=v64_and(v64_eq(v64_at(s+2),v64_splat(100)),v64_eq(v64_at(s+3),v64_splat(58)));
-u=(((((u64)v16_top(t.p[1])<<16)|v16_top(t.p[0]))|((u64)v16_top(t.p[2])<<32))|((u64)v16_top(t.p[3])<<48))>>(q-r);
-v=u==0?r+64:cttz(u,64)+q;}
+A16 u8 f[12];
+u8 g,h,i,k,p;
+u64 j,l,n,o;
+u8 *m;
+s_8_8 q,r;
+if(d-65537<0xffffffffffff0001u){
+g=0;
+h=0;}
 else{
-if(n){
-w=umin64(o,q);
-x=l+(i64)w;
-y=(u64)(v16_eq(v16_at(x+2),splat(100))&v16_eq(v16_at(x+3),splat(58)))>>(q-w);
-v=y==0?w+16:cttz(y,64)+q;}
-else v=q;}
-if(k-v>=5){
-z=l+(i64)v;
-if(*z==115){
-if(z[1]==116){
-if(z[2]==100){
-if(z[3]==58){
-if(z[4]==58){
-if(v!=0){
-A=z[-1];
-if(A==58)goto L2;
-if(*((u8*)t_39e2+A)==49)goto L2;}
-if(d!=0){
-B=0;
-C=0;
-D=0;
-goto L3;}
-if(b[9]&1){
-z24(h);
-path_of_ea7(h,e,f);
-if(*h&1){
-B=0;
-C=0;
-D=0;
-goto L3;}}
-E=rewrite_8ff(b+8,c+1544,j,g);
-if(!(E&1)){
-B=0;
-C=0;
-D=0;
-goto L3;}
-if(r8(g+8)<=j){
-B=1;
-C=4;
-D=0;
-goto L3;}
-w8(g+8,j);
-B=1;
-C=4;
-D=0;
-goto L3;}}}}}}
-L2:F=v+1;
-if(k-F>4){
-q=F;
+i=*c==95;
+if(d==2){
+if(!i){
+g=0;
+h=0;
 goto L1;}
-B=0;
-C=0;
-D=0;}
+switch(c[1]){
+case 90:j=0;
+goto L2;
+case 82:break;
+default:g=0;
+h=0;
+goto L1;
+}}
 else{
-B=0;
-C=0;
-D=0;}}
+if(!i){
+g=0;
+h=0;
+goto L1;}
+switch(c[1]){
+case 90:j=0;
+goto L2;
+case 82:break;
+case 95:switch(c[2]){
+case 90:j=0x100000000u;
+goto L2;
+case 82:j=0x100000001u;
+goto L2;
+default:g=0;
+h=0;
+goto L1;
+}
+break;
+default:g=0;
+h=0;
+goto L1;
+}}
+j=1;
+L2:k=j;
+l=j>>32;
+m=c+(i64)l;
+n=d-l;
+z12(f);
+o=r8(e+8);
+append_a0b(f,a,b,k,m,n,e);
+if(*f==0){
+p=rewrite_or_remove_fa2(a+8,b+1544,k,m,n,o,e);
+if(!(p&1)){
+g=1;
+h=0;
+goto L1;}}
 else{
-B=1;
-C=i[4];
-D=r4(i+8);}
-L3:*a=B;
-x4(a+4,C);
-x4(a+8,D);
-return;
+if(f[4]!=4){
+g=0;
+h=0;
+goto L1;}}
+g=0;
+h=1;}
+L1:q=(s_8_8){0};q.f0=h;
+r=q;r.f1=g;
+return r;
 }
 
 /* sym_filter::tries::append_parts */
 static s_8_8 append_parts_0b0(u8* a,u8* b,u8* c,u64 d,u8* e)
 {
-A16 u8 f[12];
-u8 *g,*o,*H,*O,*P,*Q,*Z,*aa,*fa;
-u64 h,k,l,n,p,r,s,v,w,x,y,z,A,B,D,E,G,I,J,L,M,N,R,S,U,W,X,Y,ba,ca,ga,ha,ja;
-u8 i,j,m,q,C,F,K,T,V,da,ea,ia;
-v16 t;
-u16 u;
-s_8_8 ka,la;
-g=c;
-h=d;
-L1:if(h==0){
-i=0;
-j=0;}
+u8 *f,*m,*A,*I,*J,*K,*T,*U,*Z;
+u64 g,j,l,n,o,p,s,t,u,v,w,x,B,C,D,F,G,H,L,M,N,O,Q,R,S,V,W,aa,ba,da;
+u8 h,i,k,z,E,P,X,Y,ca;
+v16 q;
+u16 r;
+s_8_8 y,ea,fa;
+f=c;
+g=d;
+L1:if(g==0){
+h=0;
+i=0;}
 else{
-if((i8)*g>=0){
-g=g+1;
-h=h-1;
+if((i8)*f>=0){
+f=f+1;
+g=g-1;
 goto L1;}
-k=r8(e+8);
-l=k;
-m=0;
-n=0;
-L2:o=c+(i64)n;
-p=d-n;
-q=*o;
-if(*((u8*)t_e4d8+q)<50){
-r=0;
+j=r8(e+8);
+k=0;
+l=0;
+L2:m=c+(i64)l;
+n=d-l;
+if(*((u8*)t_e4d8+*m)<50){
+o=0;
 goto L3;}
-s=0;
-L4:if(p-s>15){
-t=v16_at(o+s);
-u=cttz(v16_ne(t,splat(36))&(v16_ne(t,splat(46))&(v16_ne(t,splat(95))&(v16_ult(v16_add(t,splat(198)),splat(246))&v16_ult(v16_add(v16_or(t,splat(32)),splat(133)),splat(230))))),16);
-v=s+u;
-if(u>=16){
-s=v;
+p=0;
+L4:if(n-p>15){
+q=v16_at(m+p);
+r=cttz(v16_ne(q,splat(36))&(v16_ne(q,splat(46))&(v16_ne(q,splat(95))&(v16_ult(v16_add(q,splat(198)),splat(246))&v16_ult(v16_add(v16_or(q,splat(32)),splat(133)),splat(230))))),16);
+s=p+r;
+if(r>=16){
+p=s;
 goto L4;}
-w=v;}
-else w=s;
-if(w>=p){
-r=w;
+t=s;}
+else t=p;
+if(t>=n){
+o=t;
 goto L3;}
-x=w;
-L5:if(*((u8*)t_e4d8+*(o+x))<50)r=x;
+u=t;
+L5:if(*((u8*)t_e4d8+*(m+u))<50)o=u;
 else{
-y=x+1;
-if(y!=p){
-x=y;
+v=u+1;
+if(v!=n){
+u=v;
 goto L5;}
-r=p;}
-L3:z=r;
-L6:if(z==0)A=l;
-else{
-B=z-1;
-if(*(o+B)==46){
-z=B;
-goto L6;}
-if(z-65537<0xffffffffffff0001u)A=l;
-else{
-C=q==95;
-if(z==2){
-if(!C){
-A=l;
-goto L7;}
-switch(o[1]){
-case 90:D=0;
-goto L8;
-case 82:break;
-default:A=l;
-goto L7;
-}}
-else{
-if(!C){
-A=l;
-goto L7;}
-switch(o[1]){
-case 90:D=0;
-goto L8;
-case 82:break;
-case 95:switch(o[2]){
-case 90:D=0x100000000u;
-goto L8;
-case 82:D=0x100000001u;
-goto L8;
-default:A=l;
-goto L7;
-}
-break;
-default:A=l;
-goto L7;
-}}
-D=1;
-L8:E=D>>32;
-z12(f);
-append_018(f,a,b,D,o+(i64)E,z-E,e);
-F=*f==0;
-if(!(F||f[4]!=4)){
-i=0;
-j=1;
-goto L9;}
-G=r8(e+8);
-if(F){
-H=o+(i64)z;
-I=r-z;
-J=r8(e+16);
-if(I>J-G){
-K=grow_amortized_2b6(e,I);
-if(!K){
-i=0;
-j=1;
-goto L9;}
-L=r8(e+16);
-M=r8(e+8);}
-else{
-L=J;
-M=G;}
-N=M+I;
-O=rp(e);
-z16(e+8);
-P=O+(i64)M;
-if((u64)P-(u64)H<I){
-copy_bits_4f4(H,P,I);
-Q=O;
-R=N;
-S=L;
-T=1;
-goto L10;}
-memmove(P,H,I);
-Q=O;
-R=N;
-S=L;
-T=1;
-goto L10;}
-A=G;}}
-L7:U=r8(e+16);
-if(r>U-A){
-V=grow_amortized_2b6(e,r);
-if(!V){
-i=0;
-j=1;
-goto L9;}
-W=r8(e+16);
-X=r8(e+8);}
-else{
-W=U;
-X=A;}
-Y=X+r;
-Z=rp(e);
-z16(e+8);
-aa=Z+(i64)X;
-if((u64)aa-(u64)o<r){
-copy_bits_4f4(o,aa,r);
-Q=Z;
-R=Y;
-S=W;
-T=0;}
-else{
-memmove(aa,o,r);
-Q=Z;
-R=Y;
-S=W;
-T=0;}
-L10:wp(e,Q);
-w8(e+8,R);
-w8(e+16,S);
-if(r==p){
-ba=R;
-ca=p;}
-else{
-da=*(o+r);
-if(S==R){
-ea=grow_amortized_2b6(e,1);
-if(!ea){
-i=0;
-j=1;
-goto L9;}
-fa=rp(e);
-ga=r8(e+8);}
-else{
-fa=Q;
-ga=R;}
-*(fa+ga)=da;
-ha=ga+1;
-w8(e+8,ha);
-ba=ha;
-ca=r+1;}
-ia=m|T;
-ja=ca+n;
-if(ja<d){
-l=ba;
-m=ia;
-n=ja;
-goto L2;}
-if(ia){
+o=n;}
+L3:w=o;
+L6:if(w!=0){
+x=w-1;
+if(*(m+x)==46){
+w=x;
+goto L6;}}
+y=append_text_33c(a,b,m,w,e);
+if(y.f0==0){
+z=y.f1&1;
+if(z){
+A=m+(i64)w;
+B=o-w;
+C=r8(e+16);
+D=r8(e+8);
+if(B>C-D){
+E=grow_amortized_2b6(e,B);
+if(!E){
+h=0;
 i=1;
-j=0;}
+goto L7;}
+F=r8(e+16);
+G=r8(e+8);}
 else{
-if(ba>k){
-w8(e+8,k);
-i=0;
-j=0;}
+F=C;
+G=D;}
+H=G+B;
+I=rp(e);
+z16(e+8);
+J=I+(i64)G;
+if((u64)J-(u64)A<B){
+copy_bits_4f4(A,J,B);
+K=I;
+L=H;
+M=F;}
 else{
-i=0;
-j=0;}}}
-L9:ka=(s_8_8){0};ka.f0=j;
-la=ka;la.f1=i;
-return la;
+memmove(J,A,B);
+K=I;
+L=H;
+M=F;}}
+else{
+N=r8(e+16);
+O=r8(e+8);
+if(o>N-O){
+P=grow_amortized_2b6(e,o);
+if(!P){
+h=0;
+i=1;
+goto L7;}
+Q=r8(e+16);
+R=r8(e+8);}
+else{
+Q=N;
+R=O;}
+S=R+o;
+T=rp(e);
+z16(e+8);
+U=T+(i64)R;
+if((u64)U-(u64)m<o){
+copy_bits_4f4(m,U,o);
+K=T;
+L=S;
+M=Q;}
+else{
+memmove(U,m,o);
+K=T;
+L=S;
+M=Q;}}
+wp(e,K);
+w8(e+8,L);
+w8(e+16,M);
+if(o==n){
+V=L;
+W=n;}
+else{
+X=*(m+o);
+if(M==L){
+Y=grow_amortized_2b6(e,1);
+if(!Y){
+h=0;
+i=1;
+goto L7;}
+Z=rp(e);
+aa=r8(e+8);}
+else{
+Z=K;
+aa=L;}
+*(Z+aa)=X;
+ba=aa+1;
+w8(e+8,ba);
+V=ba;
+W=o+1;}
+ca=k|z;
+da=W+l;
+if(da<d){
+k=ca;
+l=da;
+goto L2;}
+if(ca){
+h=1;
+i=0;}
+else{
+if(V>j){
+w8(e+8,j);
+h=0;
+i=0;}
+else{
+h=0;
+i=0;}}}
+else{
+h=0;
+i=1;}}
+L7:ea=(s_8_8){0};ea.f0=i;
+fa=ea;fa.f1=h;
+return fa;
+}
+
+/* sym_filter::words::push_text */
+static s_8_8 push_text_fb5(u8* a,u8* b,u8* c,u64 d,u8 e,u32 f,u8* g)
+{
+A16 u8 h[12];
+u8 *i,*u,*v;
+u64 j,k,o,p,r,s,t;
+u8 l,m,n,q;
+s_8_8 w,x;
+i=c+(i64)f;
+j=d-f;
+z12(h);
+k=r8(g+8);
+append_a0b(h,a,b,e,i,j,g);
+if(*h==0){
+l=rewrite_or_remove_fa2(a+8,b+1544,e,i,j,k,g);
+m=l^1;
+n=l;}
+else{
+if(h[4]==4){
+m=0;
+n=1;}
+else{
+o=r8(g+16);
+p=r8(g+8);
+if(d>o-p){
+q=grow_amortized_2b6(g,d);
+if(!q){
+m=0;
+n=1;
+goto L1;}
+r=r8(g+16);
+s=r8(g+8);}
+else{
+r=o;
+s=p;}
+t=s+d;
+u=rp(g);
+z16(g+8);
+v=u+(i64)s;
+if((u64)v-(u64)c<d)copy_bits_4f4(c,v,d);
+else memmove(v,c,d);
+wp(g,u);
+w8(g+8,t);
+w8(g+16,r);
+m=0;
+n=0;}}
+L1:w=(s_8_8){0};w.f0=n;
+x=w;x.f1=m;
+return x;
 }
 
 /* sym_calls::counted::end_segment */
 static u8 end_segment_ba1(u8* a,u8* b,u8* c,u8* d,u8* e)
 {
-A16 u8 f[12],g[48];
-u128 h,i,U,ea;
-u8 *j,*v,*w,*x,*E,*F,*K,*R,*S,*ca,*da;
-u64 k,m,n,o,p,q,s,t,u,y,z,B,C,D,H,I,J,L,M,O,P,Q,T,V,W,X,Z,aa,ba;
-u8 l,r,A,G,N,Y;
-z48(g);
+A16 u8 f[48];
+u128 g,h,K,U;
+u8 *i,*n,*u,*v,*A,*H,*I,*S,*T;
+u64 j,l,o,p,r,s,t,x,y,z,B,C,E,F,G,J,L,M,N,P,Q,R;
+u8 k,q,w,D,O;
+s_8_8 m;
+z48(f);
 if(*c!=2){
-i=r16(c+32);
-j=rp(c+8);
-k=r8(c+16);
-if(k-65537>=0xffffffffffff0001u){
-l=*j==95;
-if(k==2){
-if(!l)goto L1;
-switch(j[1]){
-case 90:m=0;
+h=r16(c+32);
+i=rp(c+8);
+j=r8(c+16);
+if(j-65537>=0xffffffffffff0001u){
+k=*i==95;
+if(j==2){
+if(!k)goto L1;
+switch(i[1]){
+case 90:l=0;
 goto L2;
 case 82:break;
 default:goto L1;
 }}
 else{
-if(!l)goto L1;
-switch(j[1]){
-case 90:m=0;
+if(!k)goto L1;
+switch(i[1]){
+case 90:l=0;
 goto L2;
 case 82:break;
-case 95:switch(j[2]){
-case 90:m=0x100000000u;
+case 95:switch(i[2]){
+case 90:l=0x100000000u;
 goto L2;
-case 82:m=0x100000001u;
+case 82:l=0x100000001u;
 goto L2;
 default:goto L1;
 }
 break;
 default:goto L1;
 }}
-m=1;
-L2:n=m>>32;
-z12(f);
-append_018(f,a,b,m,j+(i64)n,k-n,d);
-if(*f!=0){
-if(f[4]!=4){
-p=r8(d+16);
-q=r8(d+8);
-if(k>p-q){
-r=grow_amortized_2b6(d,k);
-if(!r)goto L3;
-s=r8(d+16);
-t=r8(d+8);}
-else{
-s=p;
-t=q;}
-u=t+k;
-v=rp(d);
-z16(d+8);
-w=v+(i64)t;
-if((u64)w-(u64)j<k)copy_bits_4f4(j,w,k);
-else memmove(w,j,k);
-wp(d,v);
-w8(d+8,u);
-w8(d+16,s);
-o=16;
+l=1;
+L2:m=push_text_fb5(a,b,i,j,l,l>>32,d);
+if(m.f0!=0)goto L3;
+w8(c+56,uadd64(r8(c+56),1));
+n=c+56+(i64)(u64)((m.f1&1)?8:16);
+w8(n,uadd64(r8(n),1));
 goto L4;}
-L3:goto L5;}
-o=8;
-L4:w8(c+56,uadd64(r8(c+56),1));
-x=c+56+(i64)o;
-w8(x,uadd64(r8(x),1));
-goto L6;}
-L1:y=r8(d+16);
-z=r8(d+8);
-if(k>y-z){
-A=grow_amortized_2b6(d,k);
-if(!A)goto L5;
-B=r8(d+16);
-C=r8(d+8);}
+L1:o=r8(d+16);
+p=r8(d+8);
+if(j>o-p){
+q=grow_amortized_2b6(d,j);
+if(!q)goto L3;
+r=r8(d+16);
+s=r8(d+8);}
 else{
-B=y;
-C=z;}
-D=C+k;
-E=rp(d);
+r=o;
+s=p;}
+t=s+j;
+u=rp(d);
 z16(d+8);
-F=E+(i64)C;
-if((u64)F-(u64)j<k)copy_bits_4f4(j,F,k);
-else memmove(F,j,k);
-wp(d,E);
-w8(d+8,D);
-w8(d+16,B);
-L6:if(r8(c+16)!=0)w8(c+16,0);
+v=u+(i64)s;
+if((u64)v-(u64)i<j)copy_bits_4f4(i,v,j);
+else memmove(v,i,j);
+wp(d,u);
+w8(d+8,t);
+w8(d+16,r);
+L4:if(r8(c+16)!=0)w8(c+16,0);
 z18(c+32);
-h=i;
-goto L7;}
-end_within_3fd(g,c,a,b,d);
-if(*g==0){
-h=r16(g+16);
-goto L7;}
-L5:G=1;
-goto L8;
-L7:c[50]=0;
-H=r8(d+8);
-I=r8(e+32);
-if(I>(H^18446744073709551615u))G=1;
+g=h;
+goto L5;}
+end_within_3fd(f,c,a,b,d);
+if(*f==0){
+g=r16(f+16);
+goto L5;}
+L3:w=1;
+goto L6;
+L5:c[50]=0;
+x=r8(d+8);
+y=r8(e+32);
+if(y>(x^18446744073709551615u))w=1;
 else{
-J=I+H;
-if(J<=r8(e+24)){
-K=rp(d);
-L=r8(e+16);
-M=r8(e+8);
-if(H>L-M){
-N=grow_amortized_2b6(e,H);
-if(!N){
-G=1;
-goto L8;}
-O=r8(e+16);
-P=r8(e+8);}
+z=y+x;
+if(z<=r8(e+24)){
+A=rp(d);
+B=r8(e+16);
+C=r8(e+8);
+if(x>B-C){
+D=grow_amortized_2b6(e,x);
+if(!D){
+w=1;
+goto L6;}
+E=r8(e+16);
+F=r8(e+8);}
 else{
-O=L;
-P=M;}
-Q=P+H;
-R=rp(e);
+E=B;
+F=C;}
+G=F+x;
+H=rp(e);
 z16(e+8);
-S=R+(i64)P;
-if((u64)S-(u64)K<H)copy_bits_4f4(K,S,H);
-else memmove(S,K,H);
-wp(e,R);
-w8(e+8,Q);
-w8(e+16,O);}
-w8(e+32,J);
+I=H+(i64)F;
+if((u64)I-(u64)A<x)copy_bits_4f4(A,I,x);
+else memmove(I,A,x);
+wp(e,H);
+w8(e+8,G);
+w8(e+16,E);}
+w8(e+32,z);
 if(r8(d+8)!=0)w8(d+8,0);
-if(h==0)G=0;
+if(g==0)w=0;
 else{
-T=r8(e+32);
-U=0;
-L9:if(T==18446744073709551615u)G=1;
+J=r8(e+32);
+K=0;
+L7:if(J==18446744073709551615u)w=1;
 else{
-V=T+1;
-if(V<=r8(e+24)){
-W=r8(e+16);
-X=r8(e+8);
-if(W==X){
-Y=grow_amortized_2b6(e,1);
-if(!Y){
-G=1;
-goto L8;}
-Z=r8(e+16);
-aa=r8(e+8);}
+L=J+1;
+if(L<=r8(e+24)){
+M=r8(e+16);
+N=r8(e+8);
+if(M==N){
+O=grow_amortized_2b6(e,1);
+if(!O){
+w=1;
+goto L6;}
+P=r8(e+16);
+Q=r8(e+8);}
 else{
-Z=W;
-aa=X;}
-ba=aa+1;
-ca=rp(e);
+P=M;
+Q=N;}
+R=Q+1;
+S=rp(e);
 z16(e+8);
-da=ca+(i64)aa;
-if((u64)da==(u64)(u8*)t_cdb4)copy_bits_4f4((u8*)t_cdb4,da,1);
-else *da=46;
-wp(e,ca);
-w8(e+8,ba);
-w8(e+16,Z);}
-w8(e+32,V);
-ea=U+1;
-if(ea<h){
-T=V;
-U=ea;
-goto L9;}
-G=0;}}}
-L8:return G;
+T=S+(i64)Q;
+if((u64)T==(u64)(u8*)t_cdb4)copy_bits_4f4((u8*)t_cdb4,T,1);
+else *T=46;
+wp(e,S);
+w8(e+8,R);
+w8(e+16,P);}
+w8(e+32,L);
+U=K+1;
+if(U<g){
+J=L;
+K=U;
+goto L7;}
+w=0;}}}
+L6:return w;
 }
 
 /* sym_calls::filtering::filter_in */
 static void filter_in_729(u8* a,u8* b,u32 c,u8* d,u64 e,u8* f,u64 g,u8* h)
 {
-u8 p[7],z[7],R[7],aa[7];
-A16 u8 i[1544],j[1544],k[1544],l[12],m[48],n[48],o[48],q[16],r[80],s[1656],t[24],u[40],v[12],w[48],x[48],y[48],A[16],B[80],C[1544],D[24],E[40],F[1544],G[1544],H[1544],I[8],J[12],K[1544],L[1544],M[1544],N[12],O[48],P[48],Q[48],S[16],T[80],U[1656],V[24],W[40],X[48],Y[48],Z[48],ba[16],ca[80],da[1544],ea[24],fa[40],ga[1544],ha[1544],ia[1544],ja[8],ka[12];
-u64 la,na,sa,ta,wa,xa,za,Aa,Ea,Ga,Ha,Ja,La,Ma,Pa,Ta,cb,db,eb,fb,jb,lb,mb,qb,tb,ub,vb,wb,xb,yb,Bb,Db,Eb,Gb,Hb,Ib,Lb,Mb,Nb,Pb,Qb,Rb,Sb,Tb,Ub,Wb,Xb,Yb,bc,ec,ic,jc,kc,mc,nc,oc,rc,sc,tc,uc,wc,xc,zc,Ac,Bc,Ec,Hc,Kc,Lc,Mc,Nc,Oc,Pc,Rc,Sc,Uc,Vc,Yc,Zc,bd,cd,gd,id,jd,ld,nd,od,sd,xd,Gd,Hd,Id,Jd,Nd,Pd,Qd,Ud,Xd,Yd,Zd,ae,be,ce,fe,he,ie,ke,le,me,pe,qe,re,te,ue,ve,we,xe,ye,Ae,Be,Ce,Fe,Ie,Je,Ke,Le,Me,Ne,Pe,Qe,Re,Ue,Ve,We,Ye,Ze,af,df,ef,ff,gf,jf,kf,mf,nf,of,rf,uf,xf,zf,Bf,Cf,Gf,If,Kf,Lf,Nf,Of,Pf,Qf,Rf,Sf,Vf,Xf,Zf,ag,cg,dg,fg,gg,jg,kg,mg,ng,rg,tg,ug,wg,yg,zg,Cg,Gg,Pg,Qg,Rg,Sg,Wg,Yg,Zg,dh,gh,hh,ih,jh,kh,lh,oh,qh,rh,th,uh,vh,yh,zh,Ah,Ch,Dh,Eh,Fh,Gh,Hh,Jh,Kh,Lh,Oh,Rh,Sh,Th,Uh,Vh,Wh,Yh,Zh,ai,di,ei,fi,hi,ii,ji,mi,ni,oi,pi,ri,si,ui,vi,wi,zi,Ci,Fi,Gi,Hi,Ii,Ji,Ki,Mi,Ni,Pi,Qi,Ti,Ui,Wi,Xi,bj,dj,ej,gj,ij,jj,mj,qj,zj,Aj,Bj,Cj,Gj,Ij,Jj,Nj,Qj,Rj,Sj,Tj,Uj,Vj,Yj,ak,bk,dk,ek,fk,ik,jk,kk,mk,nk,ok,pk,qk,rk,tk,uk,vk,yk,Bk,Ck,Dk,Ek,Fk,Gk,Ik,Jk,Kk,Nk,Ok,Pk,Rk,Sk,Tk,Wk,Xk,Yk,Zk,bl,cl,el,fl,gl,jl,ml,pl,rl,tl,ul,yl,Al,Cl,Dl,Fl,Gl,Hl,Il,Jl,Kl,Nl,Pl,Rl,Sl,Ul;
-u8 ma,oa,pa,qa,ra,ua,Ba,Fa,Ka,Na,Oa,Qa,Ra,Sa,Va,Wa,Xa,Ya,ab,bb,ob,pb,Ab,Fb,Ob,Vb,dc,gc,lc,yc,Dc,Fc,Gc,Ic,Wc,dd,hd,md,pd,qd,td,ud,vd,zd,Ad,Bd,Cd,Ed,Fd,Sd,Td,ee,je,se,ze,He,Oe,Xe,lf,qf,sf,tf,Df,hg,og,sg,xg,Ag,Bg,Dg,Eg,Fg,Ig,Jg,Kg,Lg,Ng,Og,bh,ch,nh,sh,Bh,Ih,Qh,Xh,gi,ti,yi,Ai,Bi,Di,Ri,Yi,cj,hj,kj,lj,nj,oj,pj,sj,tj,uj,vj,xj,yj,Lj,Mj,Xj,ck,lk,sk,Ak,Hk,Qk,dl,il,kl,ll,vl;
-u8 *va,*ya,*Ua,*gb,*kb,*Cb,*Jb,*Kb,*Zb,*cc,*hc,*pc,*qc,*vc,*Cc,*Jc,*Xc,*ad,*yd,*Kd,*Od,*ge,*ne,*oe,*De,*Ge,*Se,*Te,*bf,*cf,*hf,*pf,*vf,*wf,*yf,*Af,*Ef,*Ff,*Hf,*Jf,*Mf,*Tf,*Uf,*Wf,*Yf,*ig,*lg,*Hg,*Tg,*Xg,*ph,*wh,*xh,*Mh,*Ph,*bi,*ci,*ki,*li,*qi,*xi,*Ei,*Si,*Vi,*rj,*Dj,*Hj,*Zj,*gk,*hk,*wk,*zk,*Lk,*Mk,*Uk,*Vk,*al,*hl,*nl,*ol,*ql,*sl,*wl,*xl,*zl,*Bl,*El,*Ll,*Ml,*Ol,*Ql;
-u128 Ca,Da,Ia,zb,ac,ed,fd,kd,de,Ee,pg,qg,vg,mh,Nh,Zi,aj,fj,Wj,xk;
-s_8_8 Za,nb,fc,Dd,Rd,Mg,ah,wj,Kj;
-u16 hb,ib,sb,Ld,Md,Wd,Ug,Vg,fh,Ej,Fj,Pj;
-v16 rb,Vd,eh,Oj;
-u32 Qc,Tc,bg,eg,Li,Oi,Tl;
-la=q8(b);
-ma=la>>16;
-na=la>>32;
-oa=na;
-pa=la>>48;
-qa=la;
-ra=(la&65280)==0;
-if((u8)(na&1)){
-z12(ka);
-w4(ja,c);
-ja[4]=qa;
-z3(ja+5);
-if(ra){
-z64(da+1480);
-z24(ea);
-z40(fa);
+u8 o[7],y[7],P[7],Y[7];
+A16 u8 i[1544],j[1544],k[1544],l[48],m[48],n[48],p[16],q[80],r[1656],s[24],t[40],u[12],v[48],w[48],x[48],z[16],A[80],B[1544],C[24],D[40],E[1544],F[1544],G[1544],H[8],I[12],J[1544],K[1544],L[1544],M[48],N[48],O[48],Q[16],R[80],S[1656],T[24],U[40],V[48],W[48],X[48],Z[16],aa[80],ba[1544],ca[24],da[40],ea[1544],fa[1544],ga[1544],ha[8],ia[12];
+u64 ja,la,qa,ra,ua,va,xa,ya,Ca,Ea,Fa,Ha,Ja,Ka,Na,Ra,ab,bb,cb,db,hb,jb,kb,ob,rb,sb,tb,ub,vb,wb,zb,Bb,Cb,Eb,Fb,Gb,Jb,Kb,Lb,Nb,Ob,Pb,Qb,Rb,Sb,Ub,Vb,Wb,Zb,cc,gc,hc,ic,kc,lc,mc,pc,qc,rc,sc,uc,vc,xc,yc,zc,Cc,Fc,Ic,Jc,Kc,Lc,Mc,Nc,Pc,Qc,Sc,Tc,Wc,Xc,Zc,ad,ed,gd,hd,jd,ld,md,pd,ud,Ed,Fd,Gd,Hd,Ld,Nd,Od,Sd,Vd,Wd,Xd,Yd,Zd,ae,de,fe,ge,ie,je,ke,ne,oe,pe,re,se,te,ue,ve,we,ye,ze,Ae,De,Ge,Ke,Le,Me,Oe,Pe,Qe,Te,Ue,Ve,We,Ye,Ze,bf,cf,df,gf,kf,nf,pf,rf,sf,wf,yf,Af,Bf,Df,Ef,Ff,Gf,Hf,If,Lf,Nf,Pf,Qf,Sf,Tf,Vf,Wf,Zf,ag,cg,dg,hg,jg,kg,mg,og,pg,sg,wg,Fg,Gg,Hg,Ig,Mg,Og,Pg,Tg,Wg,Xg,Yg,Zg,ah,bh,eh,gh,hh,jh,kh,lh,oh,ph,qh,sh,th,uh,vh,wh,xh,zh,Ah,Bh,Eh,Hh,Ih,Jh,Kh,Lh,Mh,Oh,Ph,Qh,Th,Uh,Vh,Xh,Yh,Zh,ci,di,ei,fi,hi,ii,ki,li,mi,pi,si,vi,wi,xi,yi,zi,Ai,Ci,Di,Fi,Gi,Ji,Ki,Mi,Ni,Ri,Ti,Ui,Wi,Yi,Zi,cj,gj,pj,qj,rj,sj,wj,yj,zj,Dj,Gj,Hj,Ij,Jj,Kj,Lj,Oj,Qj,Rj,Tj,Uj,Vj,Yj,Zj,ak,ck,dk,ek,fk,gk,hk,jk,kk,lk,ok,rk,vk,wk,xk,zk,Ak,Bk,Ek,Fk,Gk,Hk,Jk,Kk,Mk,Nk,Ok,Rk,Uk,Xk,Zk,bl,cl,gl,il,kl,ll,nl,ol,pl,ql,rl,sl,vl,xl,zl,Al,Cl;
+u8 ka,ma,na,oa,pa,sa,za,Da,Ia,La,Ma,Oa,Pa,Qa,Ta,Ua,Va,Wa,Ya,Za,mb,nb,yb,Db,Mb,Tb,bc,ec,jc,wc,Bc,Dc,Ec,Gc,Uc,bd,fd,kd,nd,od,qd,sd,td,xd,yd,zd,Ad,Cd,Dd,Qd,Rd,ce,he,qe,xe,Fe,Ie,Ne,af,ff,hf,jf,tf,Xf,eg,ig,ng,qg,rg,tg,ug,vg,yg,zg,Ag,Bg,Dg,Eg,Rg,Sg,dh,ih,rh,yh,Gh,Nh,Wh,ji,oi,qi,ri,ti,Hi,Oi,Si,Xi,aj,bj,dj,ej,fj,ij,jj,kj,lj,nj,oj,Bj,Cj,Nj,Sj,bk,ik,qk,tk,yk,Lk,Qk,Sk,Tk,dl;
+u8 *ta,*wa,*Sa,*eb,*ib,*Ab,*Hb,*Ib,*Xb,*ac,*fc,*nc,*oc,*tc,*Ac,*Hc,*Vc,*Yc,*vd,*Id,*Md,*ee,*le,*me,*Be,*Ee,*Je,*Re,*Se,*Xe,*ef,*lf,*mf,*of,*qf,*uf,*vf,*xf,*zf,*Cf,*Jf,*Kf,*Mf,*Of,*Yf,*bg,*xg,*Jg,*Ng,*fh,*mh,*nh,*Ch,*Fh,*Rh,*Sh,*ai,*bi,*gi,*ni,*ui,*Ii,*Li,*hj,*tj,*xj,*Pj,*Wj,*Xj,*mk,*pk,*uk,*Ck,*Dk,*Ik,*Pk,*Vk,*Wk,*Yk,*al,*el,*fl,*hl,*jl,*ml,*tl,*ul,*wl,*yl;
+u128 Aa,Ba,Ga,xb,Yb,cd,dd,id,be,Ce,fg,gg,lg,ch,Dh,Pi,Qi,Vi,Mj,nk;
+s_8_8 Xa,lb,dc,Bd,Pd,He,Cg,Qg,mj,Aj,sk;
+u16 fb,gb,qb,Jd,Kd,Ud,Kg,Lg,Vg,uj,vj,Fj;
+v16 pb,Td,Ug,Ej;
+u32 Oc,Rc,Rf,Uf,Bi,Ei,Bl;
+ja=q8(b);
+ka=ja>>16;
+la=ja>>32;
+ma=la;
+na=ja>>48;
+oa=ja;
+pa=(ja&65280)==0;
+if((u8)(la&1)){
+z12(ia);
+w4(ha,c);
+ha[4]=oa;
+z3(ha+5);
+if(pa){
+z64(ba+1480);
+z24(ca);
+z40(da);
+zero_all(ea,1544);
+zero_all(fa,1544);
 zero_all(ga,1544);
-zero_all(ha,1544);
-zero_all(ia,1544);
-*ca=pa;
-z7(ca+1);
-wp(ca+8,(u8*)65536);
-z64(ca+16);
-sa=(u64)(u8*)65536;
+*aa=na;
+z7(aa+1);
+wp(aa+8,(u8*)65536);
+z64(aa+16);
+qa=(u64)(u8*)65536;
+wp(ba,(u8*)65536);
+z24(ba+8);
+wp(ba+32,(u8*)65536);
+z16(ba+40);
+wp(ba+56,(u8*)65536);
+z32(ba+64);
+wp(ba+96,(u8*)65536);
+z16(ba+104);
+wp(ba+120,(u8*)65536);
+z32(ba+128);
+wp(ba+160,(u8*)65536);
+z80(ba+168);
+wp(ba+248,(u8*)65536);
+z16(ba+256);
+wp(ba+272,(u8*)65536);
+z40(ba+280);
+wp(ba+320,(u8*)65536);
+z16(ba+328);
+wp(ba+344,(u8*)65536);
+z16(ba+352);
+wp(ba+368,(u8*)65536);
+z16(ba+376);
+wp(ba+392,(u8*)65536);
+z16(ba+400);
+wp(ba+416,(u8*)65536);
+z16(ba+424);
+wp(ba+440,(u8*)65536);
+z48(ba+448);
+wp(ba+496,(u8*)65536);
+z32(ba+504);
+wp(ba+536,(u8*)65536);
+z32(ba+544);
+wp(ba+576,(u8*)65536);
+z104(ba+584);
+w8(ba+688,qa);
+z40(ba+696);
+w8(ba+736,qa);
+z16(ba+744);
+wp(ba+760,(u8*)65536);
+z32(ba+768);
+wp(ba+800,(u8*)65536);
+z24(ba+808);
+wp(ba+832,(u8*)65536);
+z16(ba+840);
+wp(ba+856,(u8*)65536);
+z32(ba+864);
+wp(ba+896,(u8*)65536);
+z16(ba+904);
+wp(ba+920,(u8*)65536);
+z24(ba+928);
+wp(ba+952,(u8*)65536);
+z16(ba+960);
+wp(ba+976,(u8*)65536);
+z16(ba+984);
+wp(ba+1000,(u8*)65536);
+z40(ba+1008);
+wp(ba+1048,(u8*)65536);
+z16(ba+1056);
+wp(ba+1072,(u8*)65536);
+z16(ba+1080);
+wp(ba+1096,(u8*)65536);
+z16(ba+1104);
+wp(ba+1120,(u8*)65536);
+z16(ba+1128);
+wp(ba+1144,(u8*)65536);
+z16(ba+1152);
+wp(ba+1168,(u8*)65536);
+z48(ba+1176);
+wp(ba+1224,(u8*)65536);
+z32(ba+1232);
+wp(ba+1264,(u8*)65536);
+z40(ba+1272);
+wp(ba+1312,(u8*)65536);
+z32(ba+1320);
+wp(ba+1352,(u8*)65536);
+z16(ba+1360);
+wp(ba+1376,(u8*)65536);
+z48(ba+1384);
+w8(ba+1432,qa);
+z40(ba+1440);
+w8(ba+1480,qa);
+z16(ba+1488);
+wp(ba+1504,(u8*)65536);
+z32(ba+1512);
+wp(ca,(u8*)65536);
+z16(ca+8);
 wp(da,(u8*)65536);
-z24(da+8);
-wp(da+32,(u8*)65536);
-z16(da+40);
-wp(da+56,(u8*)65536);
-z32(da+64);
-wp(da+96,(u8*)65536);
-z16(da+104);
-wp(da+120,(u8*)65536);
-z32(da+128);
-wp(da+160,(u8*)65536);
-z80(da+168);
-wp(da+248,(u8*)65536);
-z16(da+256);
-wp(da+272,(u8*)65536);
-z40(da+280);
-wp(da+320,(u8*)65536);
-z16(da+328);
-wp(da+344,(u8*)65536);
-z16(da+352);
-wp(da+368,(u8*)65536);
-z16(da+376);
-wp(da+392,(u8*)65536);
-z16(da+400);
-wp(da+416,(u8*)65536);
-z16(da+424);
-wp(da+440,(u8*)65536);
-z48(da+448);
-wp(da+496,(u8*)65536);
-z32(da+504);
-wp(da+536,(u8*)65536);
-z32(da+544);
-wp(da+576,(u8*)65536);
-z104(da+584);
-w8(da+688,sa);
-z40(da+696);
-w8(da+736,sa);
-z16(da+744);
-wp(da+760,(u8*)65536);
-z32(da+768);
-wp(da+800,(u8*)65536);
-z24(da+808);
-wp(da+832,(u8*)65536);
-z16(da+840);
-wp(da+856,(u8*)65536);
-z32(da+864);
-wp(da+896,(u8*)65536);
-z16(da+904);
-wp(da+920,(u8*)65536);
-z24(da+928);
-wp(da+952,(u8*)65536);
-z16(da+960);
-wp(da+976,(u8*)65536);
-z16(da+984);
-wp(da+1000,(u8*)65536);
-z40(da+1008);
-wp(da+1048,(u8*)65536);
-z16(da+1056);
-wp(da+1072,(u8*)65536);
-z16(da+1080);
-wp(da+1096,(u8*)65536);
-z16(da+1104);
-wp(da+1120,(u8*)65536);
-z16(da+1128);
-wp(da+1144,(u8*)65536);
-z16(da+1152);
-wp(da+1168,(u8*)65536);
-z48(da+1176);
-wp(da+1224,(u8*)65536);
-z32(da+1232);
-wp(da+1264,(u8*)65536);
-z40(da+1272);
-wp(da+1312,(u8*)65536);
-z32(da+1320);
-wp(da+1352,(u8*)65536);
-z16(da+1360);
-wp(da+1376,(u8*)65536);
-z48(da+1384);
-w8(da+1432,sa);
-z40(da+1440);
-w8(da+1480,sa);
-z16(da+1488);
-wp(da+1504,(u8*)65536);
-z32(da+1512);
-wp(ea,(u8*)65536);
-z16(ea+8);
-wp(fa,(u8*)65536);
-z16(fa+8);
-w8(fa+24,g);
-w8(fa+32,0);
+z16(da+8);
+w8(da+24,g);
+w8(da+32,0);
 if(e!=0){
-ta=0;
-ua=0;
-L1:va=d+(i64)ta;
-z16(ba);
-first_segment_4a3(ba,*ca,va,e-ta,ua);
-wa=r8(ba);
-if(wa==0)goto L2;
-xa=0;
-L3:ya=va+(i64)xa;
-za=wa-xa;
-z48(Y);
-Aa=r8(ca+16);
-Ba=Aa==0;
-Ca=r16(ca+32);
-if(Ba&&Ca==0){
-if(ca[50]&1){
-pass_6c7(Y,ca,ya,za);
-Da=r16(Y);
-Ea=r8(Y+16);
-Fa=Y[24];
-Ga=r8(Y+32);
-Ha=r8(Y+40);
-memcpy(aa,Y+25,7);
+ra=0;
+sa=0;
+L1:ta=d+(i64)ra;
+z16(Z);
+first_segment_4a3(Z,*aa,ta,e-ra,sa);
+ua=r8(Z);
+if(ua==0)goto L2;
+va=0;
+L3:wa=ta+(i64)va;
+xa=ua-va;
+z48(W);
+ya=r8(aa+16);
+za=ya==0;
+Aa=r16(aa+32);
+if(za&&Aa==0){
+if(aa[50]&1){
+pass_6c7(W,aa,wa,xa);
+Ba=r16(W);
+Ca=r8(W+16);
+Da=W[24];
+Ea=r8(W+32);
+Fa=r8(W+40);
+memcpy(Y,W+25,7);
+Ga=Ba;
+Ha=Ca;
 Ia=Da;
 Ja=Ea;
 Ka=Fa;
-La=Ga;
-Ma=Ha;
 goto L4;}
-Na=*ca;
-Oa=ca[48];
-if(za==0)Pa=0;
+La=*aa;
+Ma=aa[48];
+if(xa==0)Na=0;
 else{
-Qa=ca[49];
-Ra=Na+49;
-Sa=Na==2;
-Ta=0;
-L5:Ua=ya+Ta;
-if(*Ua==95){
-if(Ta==0){
-switch(Oa){
-case 0:Va=Na;
+Oa=aa[49];
+Pa=La+49;
+Qa=La==2;
+Ra=0;
+L5:Sa=wa+Ra;
+if(*Sa==95){
+if(Ra==0){
+switch(Ma){
+case 0:Ta=La;
 goto L6;
-case 1:if(Sa){
-switch(Qa){
-case 46:case 36:Wa=1;
-Xa=49;
+case 1:if(Qa){
+switch(Oa){
+case 46:case 36:Ua=1;
+Va=49;
 goto L7;
 default:break;}}
 break;
-case 2:if(Sa){
-switch(Qa){
-case 46:case 36:Wa=1;
-Xa=49;
+case 2:if(Qa){
+switch(Oa){
+case 46:case 36:Ua=1;
+Va=49;
 goto L7;
 default:break;}}
 break;
 default:NEVER;
 }}
 else{
-Ya=*((u8*)t_e4d8+Ua[-1]);
-if(Ra>Ya){
-if(Ya<=(Na==0?48:49)){
-ab=0;
-bb=0;
-cb=Ta;
+Wa=*((u8*)t_e4d8+Sa[-1]);
+if(Pa>Wa){
+if(Wa<=(La==0?48:49)){
+Ya=0;
+Za=0;
+ab=Ra;
 goto L8;}
-Za=place_in_stretch_597(Na,ya,Ta,Oa);
-ab=Za.f1;
-bb=Za.f0;
-cb=Ta;
+Xa=place_in_stretch_597(La,wa,Ra,Ma);
+Ya=Xa.f1;
+Za=Xa.f0;
+ab=Ra;
 goto L8;}}}
-db=Ta+1;
-eb=za-db;
-if(eb<16)fb=0;
+bb=Ra+1;
+cb=xa-bb;
+if(cb<16)db=0;
 else{
-gb=ya+(i64)db;
-hb=cttz(v16_eq(v16_at(gb),splat(95)),16);
-if((eb<32)|(hb<16))fb=hb;
+eb=wa+(i64)bb;
+fb=cttz(v16_eq(v16_at(eb),splat(95)),16);
+if((cb<32)|(fb<16))db=fb;
 else{
-ib=cttz(v16_eq(v16_at(gb+16),splat(95)),16);
-if(ib<16)fb=ib|16;
+gb=cttz(v16_eq(v16_at(eb+16),splat(95)),16);
+if(gb<16)db=gb|16;
 else{
-if(eb<=95){
-fb=32;
+if(cb<=95){
+db=32;
 goto L9;}
-jb=32;
-L10:kb=gb+(i64)jb;
-if((((v16_eq(v16_at(kb),splat(95))|v16_eq(v16_at(kb+16),splat(95)))|v16_eq(v16_at(kb+32),splat(95)))|v16_eq(v16_at(kb+48),splat(95)))==0){
-lb=jb+64;
-if(eb-lb>63){
-jb=lb;
+hb=32;
+L10:ib=eb+(i64)hb;
+if((((v16_eq(v16_at(ib),splat(95))|v16_eq(v16_at(ib+16),splat(95)))|v16_eq(v16_at(ib+32),splat(95)))|v16_eq(v16_at(ib+48),splat(95)))==0){
+jb=hb+64;
+if(cb-jb>63){
+hb=jb;
 goto L10;}
-fb=lb;}
-else fb=jb;}}}
-L9:mb=fb+db;
-if(mb<za){
-Ta=mb;
+db=jb;}
+else db=hb;}}}
+L9:kb=db+bb;
+if(kb<xa){
+Ra=kb;
 goto L5;}
-Pa=mb;}
-if(*((u8*)t_e4d8+*(ya+(i64)Pa-1))>(Na==0?48:49)){
-nb=place_in_stretch_597(Na,ya,Pa,Oa);
-ob=nb.f0;
-pb=nb.f1;}
+Na=kb;}
+if(*((u8*)t_e4d8+*(wa+(i64)Na-1))>(La==0?48:49)){
+lb=place_in_stretch_597(La,wa,Na,Ma);
+mb=lb.f0;
+nb=lb.f1;}
 else{
-ob=0;
-pb=0;}
-if(Pa==0){
-Va=Na;
+mb=0;
+nb=0;}
+if(Na==0){
+Ta=La;
 goto L6;}
-ab=pb;
-bb=ob;
-cb=Pa;
-L8:w2(ca+48,(u16)((u32)ab<<8)|bb);
-z7(aa);
-Ia=0;
-Ja=cb;
-Ka=1;
-La=0;
-Ma=0;
+Ya=nb;
+Za=mb;
+ab=Na;
+L8:w2(aa+48,(u16)((u32)Ya<<8)|Za);
+z7(Y);
+Ga=0;
+Ha=ab;
+Ia=1;
+Ja=0;
+Ka=0;
 goto L4;}
-Va=*ca;
-L6:Wa=Va==2;
-Xa=Va==1?50:49;
-L7:if(Xa>*((u8*)t_e4d8+*ya))goto L11;
-qb=0;
-L12:if(za-qb>15){
-rb=v16_at(ya+qb);
-sb=cttz(v16_ne(rb,splat(36))&(v16_ne(rb,splat(46))&(v16_ne(rb,splat(95))&(v16_ult(v16_add(rb,splat(198)),splat(246))&v16_ult(v16_add(v16_or(rb,splat(32)),splat(133)),splat(230))))),16);
-tb=qb+sb;
-if(sb>=16){
-qb=tb;
+Ta=*aa;
+L6:Ua=Ta==2;
+Va=Ta==1?50:49;
+L7:if(Va>*((u8*)t_e4d8+*wa))goto L11;
+ob=0;
+L12:if(xa-ob>15){
+pb=v16_at(wa+ob);
+qb=cttz(v16_ne(pb,splat(36))&(v16_ne(pb,splat(46))&(v16_ne(pb,splat(95))&(v16_ult(v16_add(pb,splat(198)),splat(246))&v16_ult(v16_add(v16_or(pb,splat(32)),splat(133)),splat(230))))),16);
+rb=ob+qb;
+if(qb>=16){
+ob=rb;
 goto L12;}
-ub=tb;}
-else ub=qb;
-if(ub>=za){
-wb=ub;
+sb=rb;}
+else sb=ob;
+if(sb>=xa){
+ub=sb;
 goto L13;}
-vb=ub;
-L14:if(Xa>*((u8*)t_e4d8+*(ya+vb)))wb=vb;
+tb=sb;
+L14:if(Va>*((u8*)t_e4d8+*(wa+tb)))ub=tb;
 else{
-xb=vb+1;
-if(xb!=za){
-vb=xb;
+vb=tb+1;
+if(vb!=xa){
+tb=vb;
 goto L14;}
-wb=za;}
-L13:if(wb==0)goto L11;
-yb=wb;
-L15:if(yb==0){
-w16(ca+32,Ca+wb);
-zb=0;
-Ab=0;}
+ub=xa;}
+L13:if(ub==0)goto L11;
+wb=ub;
+L15:if(wb==0){
+w16(aa+32,Aa+ub);
+xb=0;
+yb=0;}
 else{
-Bb=yb-1;
-if(*(ya+Bb)==46){
-yb=Bb;
+zb=wb-1;
+if(*(wa+zb)==46){
+wb=zb;
 goto L15;}
-if(Ca+yb>65536-Aa){
-Cb=rp(ca+8);
-Db=r8(ea+16);
-Eb=r8(ea+8);
-if(Aa>Db-Eb){
-Fb=grow_amortized_2b6(ea,Aa);
-if(!Fb)goto L16;
-Gb=r8(ea+16);
-Hb=r8(ea+8);}
+if(Aa+wb>65536-ya){
+Ab=rp(aa+8);
+Bb=r8(ca+16);
+Cb=r8(ca+8);
+if(ya>Bb-Cb){
+Db=grow_amortized_2b6(ca,ya);
+if(!Db)goto L16;
+Eb=r8(ca+16);
+Fb=r8(ca+8);}
 else{
-Gb=Db;
-Hb=Eb;}
-Ib=Hb+Aa;
-Jb=rp(ea);
-z16(ea+8);
-Kb=Jb+(i64)Hb;
-if((u64)Kb-(u64)Cb<Aa){
-copy_bits_4f4(Cb,Kb,Aa);
-w8(ea+8,Ib);
-w8(ea+16,Gb);}
+Eb=Bb;
+Fb=Cb;}
+Gb=Fb+ya;
+Hb=rp(ca);
+z16(ca+8);
+Ib=Hb+(i64)Fb;
+if((u64)Ib-(u64)Ab<ya){
+copy_bits_4f4(Ab,Ib,ya);
+w8(ca+8,Gb);
+w8(ca+16,Eb);}
 else{
-memmove(Kb,Cb,Aa);
-w8(ea+8,Ib);
-w8(ea+16,Gb);
-if(Ba)goto L17;}
-w8(ca+16,0);
-L17:w16(ca+32,0);
-ca[50]=1;
-zb=Ca;
-Ab=1;}
+memmove(Ib,Ab,ya);
+w8(ca+8,Gb);
+w8(ca+16,Eb);
+if(za)goto L17;}
+w8(aa+16,0);
+L17:w16(aa+32,0);
+aa[50]=1;
+xb=Aa;
+yb=1;}
 else{
-Lb=Ca;
-Mb=Aa+Lb;
-if(Mb>Aa){
-Nb=r8(ca+24);
-if(Nb-Aa<Lb){
-Ob=grow_amortized_2b6(ca+8,Lb);
-if(!Ob)goto L16;
-Pb=r8(ca+16);
-Qb=Pb+Lb;
-Rb=r8(ca+24);
-Sb=Pb;}
+Jb=Aa;
+Kb=ya+Jb;
+if(Kb>ya){
+Lb=r8(aa+24);
+if(Lb-ya<Jb){
+Mb=grow_amortized_2b6(aa+8,Jb);
+if(!Mb)goto L16;
+Nb=r8(aa+16);
+Ob=Nb+Jb;
+Pb=r8(aa+24);
+Qb=Nb;}
 else{
-Qb=Mb;
-Rb=Nb;
-Sb=Aa;}
-if(Sb<Qb)memset(rp(ca+8)+(i64)Sb,46,Lb);
-w8(ca+16,Qb);
-w8(ca+24,Rb);
-Tb=Qb;}
+Ob=Kb;
+Pb=Lb;
+Qb=ya;}
+if(Qb<Ob)memset(rp(aa+8)+(i64)Qb,46,Jb);
+w8(aa+16,Ob);
+w8(aa+24,Pb);
+Rb=Ob;}
 else{
-if(Aa>Mb){
-w8(ca+16,Mb);
-Tb=Mb;}
-else Tb=Aa;}
-Ub=r8(ca+24);
-if(yb>Ub-Tb){
-Vb=grow_amortized_2b6(ca+8,yb);
-if(!Vb)goto L16;
-Wb=r8(ca+24);
-Xb=r8(ca+16);}
+if(ya>Kb){
+w8(aa+16,Kb);
+Rb=Kb;}
+else Rb=ya;}
+Sb=r8(aa+24);
+if(wb>Sb-Rb){
+Tb=grow_amortized_2b6(aa+8,wb);
+if(!Tb)goto L16;
+Ub=r8(aa+24);
+Vb=r8(aa+16);}
 else{
-Wb=Ub;
-Xb=Tb;}
-Yb=Xb+yb;
-Zb=rp(ca+8)+(i64)Xb;
-if((u64)Zb-(u64)ya<yb)copy_bits_4f4(ya,Zb,yb);
-else memmove(Zb,ya,yb);
-w8(ca+16,Yb);
-w8(ca+24,Wb);
-w16(ca+32,wb-yb);
-zb=0;
-Ab=0;}}
-z7(aa);
-Ia=zb;
-Ja=wb;
-Ka=Ab;
-La=0;
-Ma=0;
+Ub=Sb;
+Vb=Rb;}
+Wb=Vb+wb;
+Xb=rp(aa+8)+(i64)Vb;
+if((u64)Xb-(u64)wa<wb)copy_bits_4f4(wa,Xb,wb);
+else memmove(Xb,wa,wb);
+w8(aa+16,Wb);
+w8(aa+24,Ub);
+w16(aa+32,ub-wb);
+xb=0;
+yb=0;}}
+z7(Y);
+Ga=xb;
+Ha=ub;
+Ia=yb;
+Ja=0;
+Ka=0;
 goto L4;
-L11:z48(X);
-if(!Wa){
-cc=rp(ca+8);
-if(Aa-65537>=0xffffffffffff0001u){
-dc=*cc==95;
-if(Aa==2){
-if(!dc)goto L18;
-switch(cc[1]){
-case 90:ec=0;
+L11:z48(V);
+if(!Ua){
+ac=rp(aa+8);
+if(ya-65537>=0xffffffffffff0001u){
+bc=*ac==95;
+if(ya==2){
+if(!bc)goto L18;
+switch(ac[1]){
+case 90:cc=0;
 goto L19;
 case 82:break;
 default:goto L18;
 }}
 else{
-if(!dc)goto L18;
-switch(cc[1]){
-case 90:ec=0;
+if(!bc)goto L18;
+switch(ac[1]){
+case 90:cc=0;
 goto L19;
 case 82:break;
-case 95:switch(cc[2]){
-case 90:ec=0x100000000u;
+case 95:switch(ac[2]){
+case 90:cc=0x100000000u;
 goto L19;
-case 82:ec=0x100000001u;
+case 82:cc=0x100000001u;
 goto L19;
 default:goto L18;
 }
 break;
 default:goto L18;
 }}
-ec=1;
-L19:fc=push_text_46b(ja,da,cc,Aa,ec,ec>>32,ea);
-if(fc.f0!=0)goto L20;
-gc=fc.f1&1;
-w8(ca+56,uadd64(r8(ca+56),1));
-hc=ca+(u64)(gc?64:72);
-w8(hc,uadd64(r8(hc),1));
-ic=gc?0:Aa;
+cc=1;
+L19:dc=push_text_46b(ha,ba,ac,ya,cc,cc>>32,ca);
+if(dc.f0!=0)goto L20;
+ec=dc.f1&1;
+w8(aa+56,uadd64(r8(aa+56),1));
+fc=aa+(u64)(ec?64:72);
+w8(fc,uadd64(r8(fc),1));
+gc=ec?0:ya;
 goto L21;}
-L18:jc=r8(ea+16);
-kc=r8(ea+8);
-if(Aa>jc-kc){
-lc=grow_amortized_2b6(ea,Aa);
-if(!lc)goto L20;
-mc=r8(ea+16);
-nc=r8(ea+8);}
+L18:hc=r8(ca+16);
+ic=r8(ca+8);
+if(ya>hc-ic){
+jc=grow_amortized_2b6(ca,ya);
+if(!jc)goto L20;
+kc=r8(ca+16);
+lc=r8(ca+8);}
 else{
-mc=jc;
-nc=kc;}
-oc=nc+Aa;
-pc=rp(ea);
-z16(ea+8);
-qc=pc+(i64)nc;
-if((u64)qc-(u64)cc<Aa){
-copy_bits_4f4(cc,qc,Aa);
-w8(ea+8,oc);
-w8(ea+16,mc);
-ic=0;}
+kc=hc;
+lc=ic;}
+mc=lc+ya;
+nc=rp(ca);
+z16(ca+8);
+oc=nc+(i64)lc;
+if((u64)oc-(u64)ac<ya){
+copy_bits_4f4(ac,oc,ya);
+w8(ca+8,mc);
+w8(ca+16,kc);
+gc=0;}
 else{
-memmove(qc,cc,Aa);
-w8(ea+8,oc);
-w8(ea+16,mc);
-if(Ba){
-rc=0;
+memmove(oc,ac,ya);
+w8(ca+8,mc);
+w8(ca+16,kc);
+if(za){
+pc=0;
 goto L22;}
-ic=0;}
-L21:w8(ca+16,0);
-rc=ic;
-L22:z18(ca+32);
-ac=Ca;
-bc=rc;
+gc=0;}
+L21:w8(aa+16,0);
+pc=gc;
+L22:z18(aa+32);
+Yb=Aa;
+Zb=pc;
 goto L23;}
-end_within_8c1(X,ca,ja,da,ea);
-if(*X==0){
-ac=r16(X+16);
-bc=r8(X+32);
+end_within_8c1(V,aa,ha,ba,ca);
+if(*V==0){
+Yb=r16(V+16);
+Zb=r8(V+32);
 goto L23;}
 L20:goto L16;
-L23:z7(aa);
-Ia=ac;
-Ja=1;
-Ka=1;
-La=bc;
-Ma=0;
+L23:z7(Y);
+Ga=Yb;
+Ha=1;
+Ia=1;
+Ja=Zb;
+Ka=0;
 goto L4;
 L16:goto L24;
-L4:w16(Z,Ia);
-w8(Z+16,Ja);
-Z[24]=Ka;
-memcpy(Z+25,aa,7);
-w8(Z+32,La);
-w8(Z+40,Ma);
-sc=r8(ea+8);
-tc=r8(fa+32);
-if(tc<=(sc^18446744073709551615u)){
-uc=tc+sc;
-if(uc<=r8(fa+24)){
-vc=rp(ea);
-wc=r8(fa+16);
-xc=r8(fa+8);
-if(sc>wc-xc){
-yc=grow_amortized_2b6(fa,sc);
-if(!yc)goto L24;
-zc=r8(fa+16);
-Ac=r8(fa+8);}
+L4:w16(X,Ga);
+w8(X+16,Ha);
+X[24]=Ia;
+memcpy(X+25,Y,7);
+w8(X+32,Ja);
+w8(X+40,Ka);
+qc=r8(ca+8);
+rc=r8(da+32);
+if(rc<=(qc^18446744073709551615u)){
+sc=rc+qc;
+if(sc<=r8(da+24)){
+tc=rp(ca);
+uc=r8(da+16);
+vc=r8(da+8);
+if(qc>uc-vc){
+wc=grow_amortized_2b6(da,qc);
+if(!wc)goto L24;
+xc=r8(da+16);
+yc=r8(da+8);}
 else{
-zc=wc;
-Ac=xc;}
-Bc=Ac+sc;
-Cc=rp(fa)+(i64)Ac;
-if((u64)Cc-(u64)vc<sc)copy_bits_4f4(vc,Cc,sc);
-else memmove(Cc,vc,sc);
-w8(fa+8,Bc);
-w8(fa+16,zc);}
-w8(fa+32,uc);
-if(sc!=0)w8(ea+8,0);
-Dc=add_following_166(fa,Z,ya,Ja);
-if(!(Dc&1)){
-Ec=Ja+xa;
-if(Ec>=wa)goto L2;
-xa=Ec;
+xc=uc;
+yc=vc;}
+zc=yc+qc;
+Ac=rp(da)+(i64)yc;
+if((u64)Ac-(u64)tc<qc)copy_bits_4f4(tc,Ac,qc);
+else memmove(Ac,tc,qc);
+w8(da+8,zc);
+w8(da+16,xc);}
+w8(da+32,sc);
+if(qc!=0)w8(ca+8,0);
+Bc=add_following_166(da,X,wa,Ha);
+if(!(Bc&1)){
+Cc=Ha+va;
+if(Cc>=ua)goto L2;
+va=Cc;
 goto L3;}}
 L24:goto L25;
-L2:Fc=ba[9];
-if(ba[8]&1){
-Gc=end_segment_98d(ja,da,ca,ea,fa);
-if(Gc!=0)goto L25;}
-Hc=wa+ta;
-if(Hc>=e)goto L26;
-ta=Hc;
-ua=Fc;
+L2:Dc=Z[9];
+if(Z[8]&1){
+Ec=end_segment_98d(ha,ba,aa,ca,da);
+if(Ec!=0)goto L25;}
+Fc=ua+ra;
+if(Fc>=e)goto L26;
+ra=Fc;
+sa=Dc;
 goto L1;
-L25:if(r8(fa+16)!=0)port_rattle_dealloc(rp(fa));
-if(r8(ea+16)!=0)port_rattle_dealloc(rp(ea));
-memcpy(ga,da,1544);
-drop_1dd(ga);
-if(r8(ca+24)==0)goto L27;
+L25:if(r8(da+16)!=0)port_rattle_dealloc(rp(da));
+if(r8(ca+16)!=0)port_rattle_dealloc(rp(ca));
+memcpy(ea,ba,1544);
+drop_1dd(ea);
+if(r8(aa+24)==0)goto L27;
 goto L28;}
-L26:Ic=end_segment_98d(ja,da,ca,ea,fa);
-if(!(Ic&1)){
-Jc=rp(fa);
-Kc=r8(fa+8);
-Lc=r8(fa+16);
-Mc=r8(fa+32);
-Nc=r8(ca+56);
-Oc=r8(ca+64);
-Pc=r8(ca+72);
-if(r8(ea+16)!=0)port_rattle_dealloc(rp(ea));
-memcpy(ia,da,1544);
-drop_1dd(ia);
-if(r8(ca+24)!=0)port_rattle_dealloc(rp(ca+8));
-if(g<Mc){
-Qc=6;
-Rc=Mc;}
-else{
+L26:Gc=end_segment_98d(ha,ba,aa,ca,da);
+if(!(Gc&1)){
+Hc=rp(da);
+Ic=r8(da+8);
+Jc=r8(da+16);
+Kc=r8(da+32);
+Lc=r8(aa+56);
+Mc=r8(aa+64);
+Nc=r8(aa+72);
+if(r8(ca+16)!=0)port_rattle_dealloc(rp(ca));
+memcpy(ga,ba,1544);
+drop_1dd(ga);
+if(r8(aa+24)!=0)port_rattle_dealloc(rp(aa+8));
 if(g<Kc){
-Qc=6;
-Rc=Kc;}
+Oc=6;
+Pc=Kc;}
 else{
-if((u64)f-(u64)Jc<Kc)copy_bits_4f4(Jc,f,Kc);
-else memmove(f,Jc,Kc);
-w8(h,Nc);
-w8(h+8,Oc);
-w8(h+16,Pc);
-Qc=0;
-Rc=Kc;}}
-if(Lc==0){
-Sc=Rc;
-Tc=Qc;
-goto L29;}
-port_rattle_dealloc(Jc);
-Sc=Rc;
-Tc=Qc;
-goto L29;}
-if(r8(fa+16)!=0)port_rattle_dealloc(rp(fa));
-if(r8(ea+16)!=0)port_rattle_dealloc(rp(ea));
-memcpy(ha,da,1544);
-drop_1dd(ha);
-if(r8(ca+24)==0)goto L27;
-L28:port_rattle_dealloc(rp(ca+8));
-L27:Sc=0;
-Tc=5;}
+if(g<Ic){
+Oc=6;
+Pc=Ic;}
 else{
-w8(ka,r8(ja));
-ka[8]=ma&1;
-ka[9]=oa;
-zero_all(U+1512,144);
-z24(V);
-z40(W);
-*T=pa;
-z7(T+1);
-wp(T+8,(u8*)65536);
-z64(T+16);
-Uc=(u64)(u8*)65536;
+if((u64)f-(u64)Hc<Ic)copy_bits_4f4(Hc,f,Ic);
+else memmove(f,Hc,Ic);
+w8(h,Lc);
+w8(h+8,Mc);
+w8(h+16,Nc);
+Oc=0;
+Pc=Ic;}}
+if(Jc==0){
+Qc=Pc;
+Rc=Oc;
+goto L29;}
+port_rattle_dealloc(Hc);
+Qc=Pc;
+Rc=Oc;
+goto L29;}
+if(r8(da+16)!=0)port_rattle_dealloc(rp(da));
+if(r8(ca+16)!=0)port_rattle_dealloc(rp(ca));
+memcpy(fa,ba,1544);
+drop_1dd(fa);
+if(r8(aa+24)==0)goto L27;
+L28:port_rattle_dealloc(rp(aa+8));
+L27:Qc=0;
+Rc=5;}
+else{
+w8(ia,r8(ha));
+ia[8]=ka&1;
+ia[9]=ma;
+zero_all(S+1512,144);
+z24(T);
+z40(U);
+*R=na;
+z7(R+1);
+wp(R+8,(u8*)65536);
+z64(R+16);
+Sc=(u64)(u8*)65536;
+wp(S,(u8*)65536);
+z24(S+8);
+wp(S+32,(u8*)65536);
+z16(S+40);
+wp(S+56,(u8*)65536);
+z32(S+64);
+wp(S+96,(u8*)65536);
+z16(S+104);
+wp(S+120,(u8*)65536);
+z32(S+128);
+wp(S+160,(u8*)65536);
+z80(S+168);
+wp(S+248,(u8*)65536);
+z16(S+256);
+wp(S+272,(u8*)65536);
+z40(S+280);
+wp(S+320,(u8*)65536);
+z16(S+328);
+wp(S+344,(u8*)65536);
+z16(S+352);
+wp(S+368,(u8*)65536);
+z16(S+376);
+wp(S+392,(u8*)65536);
+z16(S+400);
+wp(S+416,(u8*)65536);
+z16(S+424);
+wp(S+440,(u8*)65536);
+z48(S+448);
+wp(S+496,(u8*)65536);
+z32(S+504);
+wp(S+536,(u8*)65536);
+z32(S+544);
+wp(S+576,(u8*)65536);
+z104(S+584);
+w8(S+688,Sc);
+z40(S+696);
+w8(S+736,Sc);
+z16(S+744);
+wp(S+760,(u8*)65536);
+z32(S+768);
+wp(S+800,(u8*)65536);
+z24(S+808);
+wp(S+832,(u8*)65536);
+z16(S+840);
+wp(S+856,(u8*)65536);
+z32(S+864);
+wp(S+896,(u8*)65536);
+z16(S+904);
+wp(S+920,(u8*)65536);
+z24(S+928);
+wp(S+952,(u8*)65536);
+z16(S+960);
+wp(S+976,(u8*)65536);
+z16(S+984);
+wp(S+1000,(u8*)65536);
+z40(S+1008);
+wp(S+1048,(u8*)65536);
+z16(S+1056);
+wp(S+1072,(u8*)65536);
+z16(S+1080);
+wp(S+1096,(u8*)65536);
+z16(S+1104);
+wp(S+1120,(u8*)65536);
+z16(S+1128);
+wp(S+1144,(u8*)65536);
+z16(S+1152);
+wp(S+1168,(u8*)65536);
+z48(S+1176);
+wp(S+1224,(u8*)65536);
+z32(S+1232);
+wp(S+1264,(u8*)65536);
+z40(S+1272);
+wp(S+1312,(u8*)65536);
+z32(S+1320);
+wp(S+1352,(u8*)65536);
+z16(S+1360);
+wp(S+1376,(u8*)65536);
+z48(S+1384);
+w8(S+1432,Sc);
+z40(S+1440);
+w8(S+1480,Sc);
+z16(S+1488);
+wp(S+1504,(u8*)65536);
+z32(S+1512);
+wp(S+1544,(u8*)65536);
+z32(S+1552);
+wp(S+1584,(u8*)65536);
+z16(S+1592);
+wp(S+1608,(u8*)65536);
+z16(S+1616);
+wp(S+1632,(u8*)65536);
+z16(S+1640);
+wp(T,(u8*)65536);
+z16(T+8);
 wp(U,(u8*)65536);
-z24(U+8);
-wp(U+32,(u8*)65536);
-z16(U+40);
-wp(U+56,(u8*)65536);
-z32(U+64);
-wp(U+96,(u8*)65536);
-z16(U+104);
-wp(U+120,(u8*)65536);
-z32(U+128);
-wp(U+160,(u8*)65536);
-z80(U+168);
-wp(U+248,(u8*)65536);
-z16(U+256);
-wp(U+272,(u8*)65536);
-z40(U+280);
-wp(U+320,(u8*)65536);
-z16(U+328);
-wp(U+344,(u8*)65536);
-z16(U+352);
-wp(U+368,(u8*)65536);
-z16(U+376);
-wp(U+392,(u8*)65536);
-z16(U+400);
-wp(U+416,(u8*)65536);
-z16(U+424);
-wp(U+440,(u8*)65536);
-z48(U+448);
-wp(U+496,(u8*)65536);
-z32(U+504);
-wp(U+536,(u8*)65536);
-z32(U+544);
-wp(U+576,(u8*)65536);
-z104(U+584);
-w8(U+688,Uc);
-z40(U+696);
-w8(U+736,Uc);
-z16(U+744);
-wp(U+760,(u8*)65536);
-z32(U+768);
-wp(U+800,(u8*)65536);
-z24(U+808);
-wp(U+832,(u8*)65536);
-z16(U+840);
-wp(U+856,(u8*)65536);
-z32(U+864);
-wp(U+896,(u8*)65536);
-z16(U+904);
-wp(U+920,(u8*)65536);
-z24(U+928);
-wp(U+952,(u8*)65536);
-z16(U+960);
-wp(U+976,(u8*)65536);
-z16(U+984);
-wp(U+1000,(u8*)65536);
-z40(U+1008);
-wp(U+1048,(u8*)65536);
-z16(U+1056);
-wp(U+1072,(u8*)65536);
-z16(U+1080);
-wp(U+1096,(u8*)65536);
-z16(U+1104);
-wp(U+1120,(u8*)65536);
-z16(U+1128);
-wp(U+1144,(u8*)65536);
-z16(U+1152);
-wp(U+1168,(u8*)65536);
-z48(U+1176);
-wp(U+1224,(u8*)65536);
-z32(U+1232);
-wp(U+1264,(u8*)65536);
-z40(U+1272);
-wp(U+1312,(u8*)65536);
-z32(U+1320);
-wp(U+1352,(u8*)65536);
-z16(U+1360);
-wp(U+1376,(u8*)65536);
-z48(U+1384);
-w8(U+1432,Uc);
-z40(U+1440);
-w8(U+1480,Uc);
-z16(U+1488);
-wp(U+1504,(u8*)65536);
-z32(U+1512);
-wp(U+1544,(u8*)65536);
-z32(U+1552);
-wp(U+1584,(u8*)65536);
-z16(U+1592);
-wp(U+1608,(u8*)65536);
-z16(U+1616);
-wp(U+1632,(u8*)65536);
-z16(U+1640);
-wp(V,(u8*)65536);
-z16(V+8);
-wp(W,(u8*)65536);
-z16(W+8);
-w8(W+24,g);
-w8(W+32,0);
+z16(U+8);
+w8(U+24,g);
+w8(U+32,0);
 if(e!=0){
-Vc=0;
-Wc=0;
-L30:Xc=d+(i64)Vc;
-z16(S);
-first_segment_4a3(S,*T,Xc,e-Vc,Wc);
-Yc=r8(S);
-z32(Q+16);
-if(Yc==0)goto L31;
-Zc=0;
-L32:ad=Xc+(i64)Zc;
-bd=Yc-Zc;
-z48(P);
-cd=r8(T+16);
-dd=cd==0;
-ed=r16(T+32);
-if(dd&&ed==0){
-if(T[50]&1){
-pass_6c7(P,T,ad,bd);
-fd=r16(P);
-gd=r8(P+16);
-hd=P[24];
-id=r8(P+32);
-jd=r8(P+40);
-memcpy(R,P+25,7);
+Tc=0;
+Uc=0;
+L30:Vc=d+(i64)Tc;
+z16(Q);
+first_segment_4a3(Q,*R,Vc,e-Tc,Uc);
+Wc=r8(Q);
+if(Wc==0)goto L31;
+Xc=0;
+L32:Yc=Vc+(i64)Xc;
+Zc=Wc-Xc;
+z48(N);
+ad=r8(R+16);
+bd=ad==0;
+cd=r16(R+32);
+if(bd&&cd==0){
+if(R[50]&1){
+pass_6c7(N,R,Yc,Zc);
+dd=r16(N);
+ed=r8(N+16);
+fd=N[24];
+gd=r8(N+32);
+hd=r8(N+40);
+memcpy(P,N+25,7);
+id=dd;
+jd=ed;
 kd=fd;
 ld=gd;
 md=hd;
-nd=id;
-od=jd;
 goto L33;}
-pd=*T;
-qd=T[48];
-if(bd==0)sd=0;
+nd=*R;
+od=R[48];
+if(Zc==0)pd=0;
 else{
-td=T[49];
-ud=pd+49;
-vd=pd==2;
-xd=0;
-L34:yd=ad+xd;
-if(*yd==95){
-if(xd==0){
-switch(qd){
-case 0:zd=pd;
+qd=R[49];
+sd=nd+49;
+td=nd==2;
+ud=0;
+L34:vd=Yc+ud;
+if(*vd==95){
+if(ud==0){
+switch(od){
+case 0:xd=nd;
 goto L35;
-case 1:if(vd){
-switch(td){
-case 46:case 36:Ad=1;
-Bd=49;
+case 1:if(td){
+switch(qd){
+case 46:case 36:yd=1;
+zd=49;
 goto L36;
 default:break;}}
 break;
-case 2:if(vd){
-switch(td){
-case 46:case 36:Ad=1;
-Bd=49;
+case 2:if(td){
+switch(qd){
+case 46:case 36:yd=1;
+zd=49;
 goto L36;
 default:break;}}
 break;
 default:NEVER;
 }}
 else{
-Cd=*((u8*)t_e4d8+yd[-1]);
-if(ud>Cd){
-if(Cd<=(pd==0?48:49)){
-Ed=0;
-Fd=0;
-Gd=xd;
+Ad=*((u8*)t_e4d8+vd[-1]);
+if(sd>Ad){
+if(Ad<=(nd==0?48:49)){
+Cd=0;
+Dd=0;
+Ed=ud;
 goto L37;}
-Dd=place_in_stretch_597(pd,ad,xd,qd);
-Ed=Dd.f1;
-Fd=Dd.f0;
-Gd=xd;
+Bd=place_in_stretch_597(nd,Yc,ud,od);
+Cd=Bd.f1;
+Dd=Bd.f0;
+Ed=ud;
 goto L37;}}}
-Hd=xd+1;
-Id=bd-Hd;
-if(Id<16)Jd=0;
+Fd=ud+1;
+Gd=Zc-Fd;
+if(Gd<16)Hd=0;
 else{
-Kd=ad+(i64)Hd;
-Ld=cttz(v16_eq(v16_at(Kd),splat(95)),16);
-if((Id<32)|(Ld<16))Jd=Ld;
+Id=Yc+(i64)Fd;
+Jd=cttz(v16_eq(v16_at(Id),splat(95)),16);
+if((Gd<32)|(Jd<16))Hd=Jd;
 else{
-Md=cttz(v16_eq(v16_at(Kd+16),splat(95)),16);
-if(Md<16)Jd=Md|16;
+Kd=cttz(v16_eq(v16_at(Id+16),splat(95)),16);
+if(Kd<16)Hd=Kd|16;
 else{
-if(Id<=95){
-Jd=32;
+if(Gd<=95){
+Hd=32;
 goto L38;}
-Nd=32;
-L39:Od=Kd+(i64)Nd;
-if((((v16_eq(v16_at(Od),splat(95))|v16_eq(v16_at(Od+16),splat(95)))|v16_eq(v16_at(Od+32),splat(95)))|v16_eq(v16_at(Od+48),splat(95)))==0){
-Pd=Nd+64;
-if(Id-Pd>63){
-Nd=Pd;
+Ld=32;
+L39:Md=Id+(i64)Ld;
+if((((v16_eq(v16_at(Md),splat(95))|v16_eq(v16_at(Md+16),splat(95)))|v16_eq(v16_at(Md+32),splat(95)))|v16_eq(v16_at(Md+48),splat(95)))==0){
+Nd=Ld+64;
+if(Gd-Nd>63){
+Ld=Nd;
 goto L39;}
-Jd=Pd;}
-else Jd=Nd;}}}
-L38:Qd=Jd+Hd;
-if(Qd<bd){
-xd=Qd;
+Hd=Nd;}
+else Hd=Ld;}}}
+L38:Od=Hd+Fd;
+if(Od<Zc){
+ud=Od;
 goto L34;}
-sd=Qd;}
-if(*((u8*)t_e4d8+*(ad+(i64)sd-1))>(pd==0?48:49)){
-Rd=place_in_stretch_597(pd,ad,sd,qd);
-Sd=Rd.f0;
-Td=Rd.f1;}
+pd=Od;}
+if(*((u8*)t_e4d8+*(Yc+(i64)pd-1))>(nd==0?48:49)){
+Pd=place_in_stretch_597(nd,Yc,pd,od);
+Qd=Pd.f0;
+Rd=Pd.f1;}
 else{
-Sd=0;
-Td=0;}
-if(sd==0){
-zd=pd;
+Qd=0;
+Rd=0;}
+if(pd==0){
+xd=nd;
 goto L35;}
-Ed=Td;
-Fd=Sd;
-Gd=sd;
-L37:w2(T+48,(u16)((u32)Ed<<8)|Fd);
-z7(R);
-kd=0;
-ld=Gd;
-md=1;
-nd=0;
-od=0;
+Cd=Rd;
+Dd=Qd;
+Ed=pd;
+L37:w2(R+48,(u16)((u32)Cd<<8)|Dd);
+z7(P);
+id=0;
+jd=Ed;
+kd=1;
+ld=0;
+md=0;
 goto L33;}
-zd=*T;
-L35:Ad=zd==2;
-Bd=zd==1?50:49;
-L36:if(Bd>*((u8*)t_e4d8+*ad))goto L40;
-Ud=0;
-L41:if(bd-Ud>15){
-Vd=v16_at(ad+Ud);
-Wd=cttz(v16_ne(Vd,splat(36))&(v16_ne(Vd,splat(46))&(v16_ne(Vd,splat(95))&(v16_ult(v16_add(Vd,splat(198)),splat(246))&v16_ult(v16_add(v16_or(Vd,splat(32)),splat(133)),splat(230))))),16);
-Xd=Ud+Wd;
-if(Wd>=16){
-Ud=Xd;
+xd=*R;
+L35:yd=xd==2;
+zd=xd==1?50:49;
+L36:if(zd>*((u8*)t_e4d8+*Yc))goto L40;
+Sd=0;
+L41:if(Zc-Sd>15){
+Td=v16_at(Yc+Sd);
+Ud=cttz(v16_ne(Td,splat(36))&(v16_ne(Td,splat(46))&(v16_ne(Td,splat(95))&(v16_ult(v16_add(Td,splat(198)),splat(246))&v16_ult(v16_add(v16_or(Td,splat(32)),splat(133)),splat(230))))),16);
+Vd=Sd+Ud;
+if(Ud>=16){
+Sd=Vd;
 goto L41;}
-Yd=Xd;}
-else Yd=Ud;
-if(Yd>=bd){
-ae=Yd;
+Wd=Vd;}
+else Wd=Sd;
+if(Wd>=Zc){
+Yd=Wd;
 goto L42;}
-Zd=Yd;
-L43:if(Bd>*((u8*)t_e4d8+*(ad+Zd)))ae=Zd;
+Xd=Wd;
+L43:if(zd>*((u8*)t_e4d8+*(Yc+Xd)))Yd=Xd;
 else{
-be=Zd+1;
-if(be!=bd){
-Zd=be;
+Zd=Xd+1;
+if(Zd!=Zc){
+Xd=Zd;
 goto L43;}
-ae=bd;}
-L42:if(ae==0)goto L40;
-ce=ae;
-L44:if(ce==0){
-w16(T+32,ed+ae);
-de=0;
-ee=0;}
+Yd=Zc;}
+L42:if(Yd==0)goto L40;
+ae=Yd;
+L44:if(ae==0){
+w16(R+32,cd+Yd);
+be=0;
+ce=0;}
 else{
-fe=ce-1;
-if(*(ad+fe)==46){
-ce=fe;
+de=ae-1;
+if(*(Yc+de)==46){
+ae=de;
 goto L44;}
-if(ed+ce>65536-cd){
-ge=rp(T+8);
-he=r8(V+16);
-ie=r8(V+8);
-if(cd>he-ie){
-je=grow_amortized_2b6(V,cd);
-if(!je)goto L45;
-ke=r8(V+16);
-le=r8(V+8);}
+if(cd+ae>65536-ad){
+ee=rp(R+8);
+fe=r8(T+16);
+ge=r8(T+8);
+if(ad>fe-ge){
+he=grow_amortized_2b6(T,ad);
+if(!he)goto L45;
+ie=r8(T+16);
+je=r8(T+8);}
 else{
-ke=he;
-le=ie;}
-me=le+cd;
-ne=rp(V);
-z16(V+8);
-oe=ne+(i64)le;
-if((u64)oe-(u64)ge<cd){
-copy_bits_4f4(ge,oe,cd);
-w8(V+8,me);
-w8(V+16,ke);}
+ie=fe;
+je=ge;}
+ke=je+ad;
+le=rp(T);
+z16(T+8);
+me=le+(i64)je;
+if((u64)me-(u64)ee<ad){
+copy_bits_4f4(ee,me,ad);
+w8(T+8,ke);
+w8(T+16,ie);}
 else{
-memmove(oe,ge,cd);
-w8(V+8,me);
-w8(V+16,ke);
-if(dd)goto L46;}
-w8(T+16,0);
-L46:w16(T+32,0);
-T[50]=1;
-de=ed;
-ee=1;}
+memmove(me,ee,ad);
+w8(T+8,ke);
+w8(T+16,ie);
+if(bd)goto L46;}
+w8(R+16,0);
+L46:w16(R+32,0);
+R[50]=1;
+be=cd;
+ce=1;}
 else{
-pe=ed;
-qe=cd+pe;
-if(qe>cd){
-re=r8(T+24);
-if(re-cd<pe){
-se=grow_amortized_2b6(T+8,pe);
-if(!se)goto L45;
-te=r8(T+16);
-ue=te+pe;
-ve=r8(T+24);
-we=te;}
+ne=cd;
+oe=ad+ne;
+if(oe>ad){
+pe=r8(R+24);
+if(pe-ad<ne){
+qe=grow_amortized_2b6(R+8,ne);
+if(!qe)goto L45;
+re=r8(R+16);
+se=re+ne;
+te=r8(R+24);
+ue=re;}
 else{
-ue=qe;
-ve=re;
-we=cd;}
-if(we<ue)memset(rp(T+8)+(i64)we,46,pe);
-w8(T+16,ue);
-w8(T+24,ve);
-xe=ue;}
+se=oe;
+te=pe;
+ue=ad;}
+if(ue<se)memset(rp(R+8)+(i64)ue,46,ne);
+w8(R+16,se);
+w8(R+24,te);
+ve=se;}
 else{
-if(cd>qe){
-w8(T+16,qe);
-xe=qe;}
-else xe=cd;}
-ye=r8(T+24);
-if(ce>ye-xe){
-ze=grow_amortized_2b6(T+8,ce);
-if(!ze)goto L45;
-Ae=r8(T+24);
-Be=r8(T+16);}
+if(ad>oe){
+w8(R+16,oe);
+ve=oe;}
+else ve=ad;}
+we=r8(R+24);
+if(ae>we-ve){
+xe=grow_amortized_2b6(R+8,ae);
+if(!xe)goto L45;
+ye=r8(R+24);
+ze=r8(R+16);}
 else{
-Ae=ye;
-Be=xe;}
-Ce=Be+ce;
-De=rp(T+8)+(i64)Be;
-if((u64)De-(u64)ad<ce)copy_bits_4f4(ad,De,ce);
-else memmove(De,ad,ce);
-w8(T+16,Ce);
-w8(T+24,Ae);
-w16(T+32,ae-ce);
-de=0;
-ee=0;}}
-z7(R);
-kd=de;
-ld=ae;
-md=ee;
-nd=0;
-od=0;
+ye=we;
+ze=ve;}
+Ae=ze+ae;
+Be=rp(R+8)+(i64)ze;
+if((u64)Be-(u64)Yc<ae)copy_bits_4f4(Yc,Be,ae);
+else memmove(Be,Yc,ae);
+w8(R+16,Ae);
+w8(R+24,ye);
+w16(R+32,Yd-ae);
+be=0;
+ce=0;}}
+z7(P);
+id=be;
+jd=Yd;
+kd=ce;
+ld=0;
+md=0;
 goto L33;
-L40:z48(O);
-if(!Ad){
-Ge=rp(T+8);
-if(cd-65537>=0xffffffffffff0001u){
-He=*Ge==95;
-if(cd==2){
-if(!He)goto L47;
-switch(Ge[1]){
-case 90:Ie=0;
+L40:z48(M);
+if(!yd){
+Ee=rp(R+8);
+if(ad-65537>=0xffffffffffff0001u){
+Fe=*Ee==95;
+if(ad==2){
+if(!Fe)goto L47;
+switch(Ee[1]){
+case 90:Ge=0;
 goto L48;
 case 82:break;
 default:goto L47;
 }}
 else{
-if(!He)goto L47;
-switch(Ge[1]){
-case 90:Ie=0;
+if(!Fe)goto L47;
+switch(Ee[1]){
+case 90:Ge=0;
 goto L48;
 case 82:break;
-case 95:switch(Ge[2]){
-case 90:Ie=0x100000000u;
+case 95:switch(Ee[2]){
+case 90:Ge=0x100000000u;
 goto L48;
-case 82:Ie=0x100000001u;
+case 82:Ge=0x100000001u;
 goto L48;
 default:goto L47;
 }
 break;
 default:goto L47;
 }}
-Ie=1;
-L48:Je=Ie>>32;
-z12(N);
-append_dd4(N,ka,U,Ie,Ge+(i64)Je,cd-Je,V);
-if(*N!=0){
-if(N[4]!=4){
-Me=r8(V+16);
-Ne=r8(V+8);
-if(cd>Me-Ne){
-Oe=grow_amortized_2b6(V,cd);
-if(!Oe)goto L49;
-Pe=r8(V+16);
-Qe=r8(V+8);}
-else{
-Pe=Me;
-Qe=Ne;}
-Re=Qe+cd;
-Se=rp(V)+(i64)Qe;
-if((u64)Se-(u64)Ge<cd)copy_bits_4f4(Ge,Se,cd);
-else memmove(Se,Ge,cd);
-w8(V+8,Re);
-w8(V+16,Pe);
-Ke=cd;
-Le=16;
+Ge=1;
+L48:He=push_text_d5a(ia,S,Ee,ad,Ge,Ge>>32,T);
+if(He.f0!=0)goto L49;
+Ie=He.f1&1;
+w8(R+56,uadd64(r8(R+56),1));
+Je=R+(u64)(Ie?64:72);
+w8(Je,uadd64(r8(Je),1));
+Ke=Ie?0:ad;
 goto L50;}
-L49:goto L51;}
-Ke=0;
-Le=8;
-L50:w8(T+56,uadd64(r8(T+56),1));
-Te=T+56+(i64)Le;
-w8(Te,uadd64(r8(Te),1));
-Ue=Ke;
+L47:Le=r8(T+16);
+Me=r8(T+8);
+if(ad>Le-Me){
+Ne=grow_amortized_2b6(T,ad);
+if(!Ne)goto L49;
+Oe=r8(T+16);
+Pe=r8(T+8);}
+else{
+Oe=Le;
+Pe=Me;}
+Qe=Pe+ad;
+Re=rp(T);
+z16(T+8);
+Se=Re+(i64)Pe;
+if((u64)Se-(u64)Ee<ad){
+copy_bits_4f4(Ee,Se,ad);
+w8(T+8,Qe);
+w8(T+16,Oe);
+Ke=0;}
+else{
+memmove(Se,Ee,ad);
+w8(T+8,Qe);
+w8(T+16,Oe);
+if(bd){
+Te=0;
+goto L51;}
+Ke=0;}
+L50:w8(R+16,0);
+Te=Ke;
+L51:z18(R+32);
+Ce=cd;
+De=Te;
 goto L52;}
-L47:Ve=r8(V+16);
-We=r8(V+8);
-if(cd>Ve-We){
-Xe=grow_amortized_2b6(V,cd);
-if(!Xe)goto L51;
-Ye=r8(V+16);
-Ze=r8(V+8);}
-else{
-Ye=Ve;
-Ze=We;}
-af=Ze+cd;
-bf=rp(V);
-z16(V+8);
-cf=bf+(i64)Ze;
-if((u64)cf-(u64)Ge<cd){
-copy_bits_4f4(Ge,cf,cd);
-w8(V+8,af);
-w8(V+16,Ye);
-Ue=0;}
-else{
-memmove(cf,Ge,cd);
-w8(V+8,af);
-w8(V+16,Ye);
-if(dd){
-df=0;
-goto L53;}
-Ue=0;}
-L52:w8(T+16,0);
-df=Ue;
-L53:z18(T+32);
-Ee=ed;
-Fe=df;
-goto L54;}
-end_within_682(O,T,ka,U,V);
-if(*O==0){
-Ee=r16(O+16);
-Fe=r8(O+32);
-goto L54;}
-L51:goto L45;
-L54:z7(R);
-kd=Ee;
-ld=1;
-md=1;
-nd=Fe;
-od=0;
+end_within_682(M,R,ia,S,T);
+if(*M==0){
+Ce=r16(M+16);
+De=r8(M+32);
+goto L52;}
+L49:goto L45;
+L52:z7(P);
+id=Ce;
+jd=1;
+kd=1;
+ld=De;
+md=0;
 goto L33;
-L45:goto L55;
-L33:w16(Q,kd);
-w8(Q+16,ld);
-Q[24]=md;
-memcpy(Q+25,R,7);
-w8(Q+32,nd);
-w8(Q+40,od);
-ef=r8(V+8);
-ff=r8(W+32);
-if(ff<=(ef^18446744073709551615u)){
-gf=ff+ef;
-if(gf<=r8(W+24)){
-hf=rp(V);
-jf=r8(W+16);
-kf=r8(W+8);
-if(ef>jf-kf){
-lf=grow_amortized_2b6(W,ef);
-if(!lf)goto L55;
-mf=r8(W+16);
-nf=r8(W+8);}
+L45:goto L53;
+L33:w16(O,id);
+w8(O+16,jd);
+O[24]=kd;
+memcpy(O+25,P,7);
+w8(O+32,ld);
+w8(O+40,md);
+Ue=r8(T+8);
+Ve=r8(U+32);
+if(Ve<=(Ue^18446744073709551615u)){
+We=Ve+Ue;
+if(We<=r8(U+24)){
+Xe=rp(T);
+Ye=r8(U+16);
+Ze=r8(U+8);
+if(Ue>Ye-Ze){
+af=grow_amortized_2b6(U,Ue);
+if(!af)goto L53;
+bf=r8(U+16);
+cf=r8(U+8);}
 else{
-mf=jf;
-nf=kf;}
-of=nf+ef;
-pf=rp(W)+(i64)nf;
-if((u64)pf-(u64)hf<ef)copy_bits_4f4(hf,pf,ef);
-else memmove(pf,hf,ef);
-w8(W+8,of);
-w8(W+16,mf);}
-w8(W+32,gf);
-if(ef!=0)w8(V+8,0);
-qf=add_following_166(W,Q,ad,ld);
-if(!(qf&1)){
-rf=ld+Zc;
-if(rf>=Yc)goto L31;
-Zc=rf;
+bf=Ye;
+cf=Ze;}
+df=cf+Ue;
+ef=rp(U)+(i64)cf;
+if((u64)ef-(u64)Xe<Ue)copy_bits_4f4(Xe,ef,Ue);
+else memmove(ef,Xe,Ue);
+w8(U+8,df);
+w8(U+16,bf);}
+w8(U+32,We);
+if(Ue!=0)w8(T+8,0);
+ff=add_following_166(U,O,Yc,jd);
+if(!(ff&1)){
+gf=jd+Xc;
+if(gf>=Wc)goto L31;
+Xc=gf;
 goto L32;}}
-L55:goto L56;
-L31:sf=S[9];
-if(S[8]&1){
-tf=end_segment_b7a(ka,U,T,V,W);
-if(tf!=0)goto L56;}
-uf=Yc+Vc;
-if(uf>=e)goto L57;
-Vc=uf;
-Wc=sf;
+L53:goto L54;
+L31:hf=Q[9];
+if(Q[8]&1){
+jf=end_segment_b7a(ia,S,R,T,U);
+if(jf!=0)goto L54;}
+kf=Wc+Tc;
+if(kf>=e)goto L55;
+Tc=kf;
+Uc=hf;
 goto L30;
-L56:if(r8(W+16)!=0)port_rattle_dealloc(rp(W));
-if(r8(V+16)!=0)port_rattle_dealloc(rp(V));
-vf=rp(U+1544);
-wf=rp(U+1584);
-xf=r8(U+1600);
-yf=rp(U+1608);
-zf=r8(U+1624);
-Af=rp(U+1632);
-Bf=r8(U+1648);
-Cf=r8(U+1560);
-memcpy(M,U,1544);
-drop_1dd(M);
-if(Cf!=0)port_rattle_dealloc(vf);
-if(xf!=0)port_rattle_dealloc(wf);
-if(zf!=0)port_rattle_dealloc(yf);
-if(Bf!=0)port_rattle_dealloc(Af);
-if(r8(T+24)==0)goto L58;
-goto L59;}
-L57:Df=end_segment_b7a(ka,U,T,V,W);
-if(!(Df&1)){
-Mf=rp(W);
-Nf=r8(W+8);
-Of=r8(W+16);
-Pf=r8(W+32);
-Qf=r8(T+56);
-Rf=r8(T+64);
-Sf=r8(T+72);
-if(r8(V+16)!=0)port_rattle_dealloc(rp(V));
-Tf=rp(U+1544);
-Uf=rp(U+1584);
-Vf=r8(U+1600);
-Wf=rp(U+1608);
-Xf=r8(U+1624);
-Yf=rp(U+1632);
-Zf=r8(U+1648);
-ag=r8(U+1560);
-memcpy(L,U,1544);
+L54:if(r8(U+16)!=0)port_rattle_dealloc(rp(U));
+if(r8(T+16)!=0)port_rattle_dealloc(rp(T));
+lf=rp(S+1544);
+mf=rp(S+1584);
+nf=r8(S+1600);
+of=rp(S+1608);
+pf=r8(S+1624);
+qf=rp(S+1632);
+rf=r8(S+1648);
+sf=r8(S+1560);
+memcpy(L,S,1544);
 drop_1dd(L);
-if(ag!=0)port_rattle_dealloc(Tf);
-if(Vf!=0)port_rattle_dealloc(Uf);
-if(Xf!=0)port_rattle_dealloc(Wf);
-if(Zf!=0)port_rattle_dealloc(Yf);
-if(r8(T+24)!=0)port_rattle_dealloc(rp(T+8));
-if(g<Pf){
-bg=6;
-cg=Pf;}
-else{
-if(g<Nf){
-bg=6;
-cg=Nf;}
-else{
-if((u64)f-(u64)Mf<Nf)copy_bits_4f4(Mf,f,Nf);
-else memmove(f,Mf,Nf);
-w8(h,Qf);
-w8(h+8,Rf);
-w8(h+16,Sf);
-bg=0;
-cg=Nf;}}
-if(Of==0){
-Sc=cg;
-Tc=bg;
-goto L29;}
-port_rattle_dealloc(Mf);
-Sc=cg;
-Tc=bg;
-goto L29;}
-if(r8(W+16)!=0)port_rattle_dealloc(rp(W));
-if(r8(V+16)!=0)port_rattle_dealloc(rp(V));
-Ef=rp(U+1544);
-Ff=rp(U+1584);
-Gf=r8(U+1600);
-Hf=rp(U+1608);
-If=r8(U+1624);
-Jf=rp(U+1632);
-Kf=r8(U+1648);
-Lf=r8(U+1560);
-memcpy(K,U,1544);
+if(sf!=0)port_rattle_dealloc(lf);
+if(nf!=0)port_rattle_dealloc(mf);
+if(pf!=0)port_rattle_dealloc(of);
+if(rf!=0)port_rattle_dealloc(qf);
+if(r8(R+24)==0)goto L56;
+goto L57;}
+L55:tf=end_segment_b7a(ia,S,R,T,U);
+if(!(tf&1)){
+Cf=rp(U);
+Df=r8(U+8);
+Ef=r8(U+16);
+Ff=r8(U+32);
+Gf=r8(R+56);
+Hf=r8(R+64);
+If=r8(R+72);
+if(r8(T+16)!=0)port_rattle_dealloc(rp(T));
+Jf=rp(S+1544);
+Kf=rp(S+1584);
+Lf=r8(S+1600);
+Mf=rp(S+1608);
+Nf=r8(S+1624);
+Of=rp(S+1632);
+Pf=r8(S+1648);
+Qf=r8(S+1560);
+memcpy(K,S,1544);
 drop_1dd(K);
-if(Lf!=0)port_rattle_dealloc(Ef);
-if(Gf!=0)port_rattle_dealloc(Ff);
-if(If!=0)port_rattle_dealloc(Hf);
-if(Kf!=0)port_rattle_dealloc(Jf);
-if(r8(T+24)==0)goto L58;
-L59:port_rattle_dealloc(rp(T+8));
-L58:Sc=0;
-Tc=5;}
-L29:dg=Sc;
-eg=Tc;}
+if(Qf!=0)port_rattle_dealloc(Jf);
+if(Lf!=0)port_rattle_dealloc(Kf);
+if(Nf!=0)port_rattle_dealloc(Mf);
+if(Pf!=0)port_rattle_dealloc(Of);
+if(r8(R+24)!=0)port_rattle_dealloc(rp(R+8));
+if(g<Ff){
+Rf=6;
+Sf=Ff;}
 else{
-z12(J);
-w4(I,c);
-I[4]=qa;
-z3(I+5);
-if(ra){
-z64(C+1480);
-z24(D);
-z40(E);
+if(g<Df){
+Rf=6;
+Sf=Df;}
+else{
+if((u64)f-(u64)Cf<Df)copy_bits_4f4(Cf,f,Df);
+else memmove(f,Cf,Df);
+w8(h,Gf);
+w8(h+8,Hf);
+w8(h+16,If);
+Rf=0;
+Sf=Df;}}
+if(Ef==0){
+Qc=Sf;
+Rc=Rf;
+goto L29;}
+port_rattle_dealloc(Cf);
+Qc=Sf;
+Rc=Rf;
+goto L29;}
+if(r8(U+16)!=0)port_rattle_dealloc(rp(U));
+if(r8(T+16)!=0)port_rattle_dealloc(rp(T));
+uf=rp(S+1544);
+vf=rp(S+1584);
+wf=r8(S+1600);
+xf=rp(S+1608);
+yf=r8(S+1624);
+zf=rp(S+1632);
+Af=r8(S+1648);
+Bf=r8(S+1560);
+memcpy(J,S,1544);
+drop_1dd(J);
+if(Bf!=0)port_rattle_dealloc(uf);
+if(wf!=0)port_rattle_dealloc(vf);
+if(yf!=0)port_rattle_dealloc(xf);
+if(Af!=0)port_rattle_dealloc(zf);
+if(r8(R+24)==0)goto L56;
+L57:port_rattle_dealloc(rp(R+8));
+L56:Qc=0;
+Rc=5;}
+L29:Tf=Qc;
+Uf=Rc;}
+else{
+z12(I);
+w4(H,c);
+H[4]=oa;
+z3(H+5);
+if(pa){
+z64(B+1480);
+z24(C);
+z40(D);
+zero_all(E,1544);
 zero_all(F,1544);
 zero_all(G,1544);
-zero_all(H,1544);
-*B=pa;
-z7(B+1);
-wp(B+8,(u8*)65536);
-z64(B+16);
-fg=(u64)(u8*)65536;
+*A=na;
+z7(A+1);
+wp(A+8,(u8*)65536);
+z64(A+16);
+Vf=(u64)(u8*)65536;
+wp(B,(u8*)65536);
+z24(B+8);
+wp(B+32,(u8*)65536);
+z16(B+40);
+wp(B+56,(u8*)65536);
+z32(B+64);
+wp(B+96,(u8*)65536);
+z16(B+104);
+wp(B+120,(u8*)65536);
+z32(B+128);
+wp(B+160,(u8*)65536);
+z80(B+168);
+wp(B+248,(u8*)65536);
+z16(B+256);
+wp(B+272,(u8*)65536);
+z40(B+280);
+wp(B+320,(u8*)65536);
+z16(B+328);
+wp(B+344,(u8*)65536);
+z16(B+352);
+wp(B+368,(u8*)65536);
+z16(B+376);
+wp(B+392,(u8*)65536);
+z16(B+400);
+wp(B+416,(u8*)65536);
+z16(B+424);
+wp(B+440,(u8*)65536);
+z48(B+448);
+wp(B+496,(u8*)65536);
+z32(B+504);
+wp(B+536,(u8*)65536);
+z32(B+544);
+wp(B+576,(u8*)65536);
+z104(B+584);
+w8(B+688,Vf);
+z40(B+696);
+w8(B+736,Vf);
+z16(B+744);
+wp(B+760,(u8*)65536);
+z32(B+768);
+wp(B+800,(u8*)65536);
+z24(B+808);
+wp(B+832,(u8*)65536);
+z16(B+840);
+wp(B+856,(u8*)65536);
+z32(B+864);
+wp(B+896,(u8*)65536);
+z16(B+904);
+wp(B+920,(u8*)65536);
+z24(B+928);
+wp(B+952,(u8*)65536);
+z16(B+960);
+wp(B+976,(u8*)65536);
+z16(B+984);
+wp(B+1000,(u8*)65536);
+z40(B+1008);
+wp(B+1048,(u8*)65536);
+z16(B+1056);
+wp(B+1072,(u8*)65536);
+z16(B+1080);
+wp(B+1096,(u8*)65536);
+z16(B+1104);
+wp(B+1120,(u8*)65536);
+z16(B+1128);
+wp(B+1144,(u8*)65536);
+z16(B+1152);
+wp(B+1168,(u8*)65536);
+z48(B+1176);
+wp(B+1224,(u8*)65536);
+z32(B+1232);
+wp(B+1264,(u8*)65536);
+z40(B+1272);
+wp(B+1312,(u8*)65536);
+z32(B+1320);
+wp(B+1352,(u8*)65536);
+z16(B+1360);
+wp(B+1376,(u8*)65536);
+z48(B+1384);
+w8(B+1432,Vf);
+z40(B+1440);
+w8(B+1480,Vf);
+z16(B+1488);
+wp(B+1504,(u8*)65536);
+z32(B+1512);
 wp(C,(u8*)65536);
-z24(C+8);
-wp(C+32,(u8*)65536);
-z16(C+40);
-wp(C+56,(u8*)65536);
-z32(C+64);
-wp(C+96,(u8*)65536);
-z16(C+104);
-wp(C+120,(u8*)65536);
-z32(C+128);
-wp(C+160,(u8*)65536);
-z80(C+168);
-wp(C+248,(u8*)65536);
-z16(C+256);
-wp(C+272,(u8*)65536);
-z40(C+280);
-wp(C+320,(u8*)65536);
-z16(C+328);
-wp(C+344,(u8*)65536);
-z16(C+352);
-wp(C+368,(u8*)65536);
-z16(C+376);
-wp(C+392,(u8*)65536);
-z16(C+400);
-wp(C+416,(u8*)65536);
-z16(C+424);
-wp(C+440,(u8*)65536);
-z48(C+448);
-wp(C+496,(u8*)65536);
-z32(C+504);
-wp(C+536,(u8*)65536);
-z32(C+544);
-wp(C+576,(u8*)65536);
-z104(C+584);
-w8(C+688,fg);
-z40(C+696);
-w8(C+736,fg);
-z16(C+744);
-wp(C+760,(u8*)65536);
-z32(C+768);
-wp(C+800,(u8*)65536);
-z24(C+808);
-wp(C+832,(u8*)65536);
-z16(C+840);
-wp(C+856,(u8*)65536);
-z32(C+864);
-wp(C+896,(u8*)65536);
-z16(C+904);
-wp(C+920,(u8*)65536);
-z24(C+928);
-wp(C+952,(u8*)65536);
-z16(C+960);
-wp(C+976,(u8*)65536);
-z16(C+984);
-wp(C+1000,(u8*)65536);
-z40(C+1008);
-wp(C+1048,(u8*)65536);
-z16(C+1056);
-wp(C+1072,(u8*)65536);
-z16(C+1080);
-wp(C+1096,(u8*)65536);
-z16(C+1104);
-wp(C+1120,(u8*)65536);
-z16(C+1128);
-wp(C+1144,(u8*)65536);
-z16(C+1152);
-wp(C+1168,(u8*)65536);
-z48(C+1176);
-wp(C+1224,(u8*)65536);
-z32(C+1232);
-wp(C+1264,(u8*)65536);
-z40(C+1272);
-wp(C+1312,(u8*)65536);
-z32(C+1320);
-wp(C+1352,(u8*)65536);
-z16(C+1360);
-wp(C+1376,(u8*)65536);
-z48(C+1384);
-w8(C+1432,fg);
-z40(C+1440);
-w8(C+1480,fg);
-z16(C+1488);
-wp(C+1504,(u8*)65536);
-z32(C+1512);
+z16(C+8);
 wp(D,(u8*)65536);
 z16(D+8);
-wp(E,(u8*)65536);
-z16(E+8);
-w8(E+24,g);
-w8(E+32,0);
+w8(D+24,g);
+w8(D+32,0);
 if(e!=0){
-gg=0;
-hg=0;
-L60:ig=d+(i64)gg;
-z16(A);
-first_segment_4a3(A,*B,ig,e-gg,hg);
-jg=r8(A);
-z32(y+16);
-if(jg==0)goto L61;
-kg=0;
-L62:lg=ig+(i64)kg;
-mg=jg-kg;
-z48(x);
-ng=r8(B+16);
-og=ng==0;
-pg=r16(B+32);
-if(og&&pg==0){
-if(B[50]&1){
-pass_6c7(x,B,lg,mg);
-qg=r16(x);
-rg=r8(x+16);
-sg=x[24];
-tg=r8(x+32);
-ug=r8(x+40);
-memcpy(z,x+25,7);
-vg=qg;
-wg=rg;
-xg=sg;
-yg=tg;
-zg=ug;
-goto L63;}
-Ag=*B;
-Bg=B[48];
-if(mg==0)Cg=0;
+Wf=0;
+Xf=0;
+L58:Yf=d+(i64)Wf;
+z16(z);
+first_segment_4a3(z,*A,Yf,e-Wf,Xf);
+Zf=r8(z);
+z32(x+16);
+if(Zf==0)goto L59;
+ag=0;
+L60:bg=Yf+(i64)ag;
+cg=Zf-ag;
+z48(w);
+dg=r8(A+16);
+eg=dg==0;
+fg=r16(A+32);
+if(eg&&fg==0){
+if(A[50]&1){
+pass_6c7(w,A,bg,cg);
+gg=r16(w);
+hg=r8(w+16);
+ig=w[24];
+jg=r8(w+32);
+kg=r8(w+40);
+memcpy(y,w+25,7);
+lg=gg;
+mg=hg;
+ng=ig;
+og=jg;
+pg=kg;
+goto L61;}
+qg=*A;
+rg=A[48];
+if(cg==0)sg=0;
 else{
-Dg=B[49];
-Eg=Ag+49;
-Fg=Ag==2;
-Gg=0;
-L64:Hg=lg+Gg;
-if(*Hg==95){
-if(Gg==0){
-switch(Bg){
-case 0:Ig=Ag;
-goto L65;
-case 1:if(Fg){
-switch(Dg){
-case 46:case 36:Jg=1;
-Kg=49;
-goto L66;
+tg=A[49];
+ug=qg+49;
+vg=qg==2;
+wg=0;
+L62:xg=bg+wg;
+if(*xg==95){
+if(wg==0){
+switch(rg){
+case 0:yg=qg;
+goto L63;
+case 1:if(vg){
+switch(tg){
+case 46:case 36:zg=1;
+Ag=49;
+goto L64;
 default:break;}}
 break;
-case 2:if(Fg){
-switch(Dg){
-case 46:case 36:Jg=1;
-Kg=49;
-goto L66;
+case 2:if(vg){
+switch(tg){
+case 46:case 36:zg=1;
+Ag=49;
+goto L64;
 default:break;}}
 break;
 default:NEVER;
 }}
 else{
-Lg=*((u8*)t_e4d8+Hg[-1]);
-if(Eg>Lg){
-if(Lg<=(Ag==0?48:49)){
-Ng=0;
-Og=0;
-Pg=Gg;
-goto L67;}
-Mg=place_in_stretch_597(Ag,lg,Gg,Bg);
-Ng=Mg.f1;
-Og=Mg.f0;
-Pg=Gg;
-goto L67;}}}
-Qg=Gg+1;
-Rg=mg-Qg;
-if(Rg<16)Sg=0;
-else{
-Tg=lg+(i64)Qg;
-Ug=cttz(v16_eq(v16_at(Tg),splat(95)),16);
-if((Rg<32)|(Ug<16))Sg=Ug;
-else{
-Vg=cttz(v16_eq(v16_at(Tg+16),splat(95)),16);
-if(Vg<16)Sg=Vg|16;
-else{
-if(Rg<=95){
-Sg=32;
-goto L68;}
-Wg=32;
-L69:Xg=Tg+(i64)Wg;
-if((((v16_eq(v16_at(Xg),splat(95))|v16_eq(v16_at(Xg+16),splat(95)))|v16_eq(v16_at(Xg+32),splat(95)))|v16_eq(v16_at(Xg+48),splat(95)))==0){
-Yg=Wg+64;
-if(Rg-Yg>63){
-Wg=Yg;
-goto L69;}
-Sg=Yg;}
-else Sg=Wg;}}}
-L68:Zg=Sg+Qg;
-if(Zg<mg){
-Gg=Zg;
-goto L64;}
-Cg=Zg;}
-if(*((u8*)t_e4d8+*(lg+(i64)Cg-1))>(Ag==0?48:49)){
-ah=place_in_stretch_597(Ag,lg,Cg,Bg);
-bh=ah.f0;
-ch=ah.f1;}
-else{
-bh=0;
-ch=0;}
-if(Cg==0){
-Ig=Ag;
+Bg=*((u8*)t_e4d8+xg[-1]);
+if(ug>Bg){
+if(Bg<=(qg==0?48:49)){
+Dg=0;
+Eg=0;
+Fg=wg;
 goto L65;}
-Ng=ch;
-Og=bh;
-Pg=Cg;
-L67:w2(B+48,(u16)((u32)Ng<<8)|Og);
-z7(z);
-vg=0;
+Cg=place_in_stretch_597(qg,bg,wg,rg);
+Dg=Cg.f1;
+Eg=Cg.f0;
+Fg=wg;
+goto L65;}}}
+Gg=wg+1;
+Hg=cg-Gg;
+if(Hg<16)Ig=0;
+else{
+Jg=bg+(i64)Gg;
+Kg=cttz(v16_eq(v16_at(Jg),splat(95)),16);
+if((Hg<32)|(Kg<16))Ig=Kg;
+else{
+Lg=cttz(v16_eq(v16_at(Jg+16),splat(95)),16);
+if(Lg<16)Ig=Lg|16;
+else{
+if(Hg<=95){
+Ig=32;
+goto L66;}
+Mg=32;
+L67:Ng=Jg+(i64)Mg;
+if((((v16_eq(v16_at(Ng),splat(95))|v16_eq(v16_at(Ng+16),splat(95)))|v16_eq(v16_at(Ng+32),splat(95)))|v16_eq(v16_at(Ng+48),splat(95)))==0){
+Og=Mg+64;
+if(Hg-Og>63){
+Mg=Og;
+goto L67;}
+Ig=Og;}
+else Ig=Mg;}}}
+L66:Pg=Ig+Gg;
+if(Pg<cg){
 wg=Pg;
-xg=1;
-yg=0;
-zg=0;
+goto L62;}
+sg=Pg;}
+if(*((u8*)t_e4d8+*(bg+(i64)sg-1))>(qg==0?48:49)){
+Qg=place_in_stretch_597(qg,bg,sg,rg);
+Rg=Qg.f0;
+Sg=Qg.f1;}
+else{
+Rg=0;
+Sg=0;}
+if(sg==0){
+yg=qg;
 goto L63;}
-Ig=*B;
-L65:Jg=Ig==2;
-Kg=Ig==1?50:49;
-L66:if(Kg>*((u8*)t_e4d8+*lg))goto L70;
-dh=0;
-L71:if(mg-dh>15){
-eh=v16_at(lg+dh);
-fh=cttz(v16_ne(eh,splat(36))&(v16_ne(eh,splat(46))&(v16_ne(eh,splat(95))&(v16_ult(v16_add(eh,splat(198)),splat(246))&v16_ult(v16_add(v16_or(eh,splat(32)),splat(133)),splat(230))))),16);
-gh=dh+fh;
-if(fh>=16){
-dh=gh;
+Dg=Sg;
+Eg=Rg;
+Fg=sg;
+L65:w2(A+48,(u16)((u32)Dg<<8)|Eg);
+z7(y);
+lg=0;
+mg=Fg;
+ng=1;
+og=0;
+pg=0;
+goto L61;}
+yg=*A;
+L63:zg=yg==2;
+Ag=yg==1?50:49;
+L64:if(Ag>*((u8*)t_e4d8+*bg))goto L68;
+Tg=0;
+L69:if(cg-Tg>15){
+Ug=v16_at(bg+Tg);
+Vg=cttz(v16_ne(Ug,splat(36))&(v16_ne(Ug,splat(46))&(v16_ne(Ug,splat(95))&(v16_ult(v16_add(Ug,splat(198)),splat(246))&v16_ult(v16_add(v16_or(Ug,splat(32)),splat(133)),splat(230))))),16);
+Wg=Tg+Vg;
+if(Vg>=16){
+Tg=Wg;
+goto L69;}
+Xg=Wg;}
+else Xg=Tg;
+if(Xg>=cg){
+Zg=Xg;
+goto L70;}
+Yg=Xg;
+L71:if(Ag>*((u8*)t_e4d8+*(bg+Yg)))Zg=Yg;
+else{
+ah=Yg+1;
+if(ah!=cg){
+Yg=ah;
 goto L71;}
-hh=gh;}
-else hh=dh;
-if(hh>=mg){
-jh=hh;
+Zg=cg;}
+L70:if(Zg==0)goto L68;
+bh=Zg;
+L72:if(bh==0){
+w16(A+32,fg+Zg);
+ch=0;
+dh=0;}
+else{
+eh=bh-1;
+if(*(bg+eh)==46){
+bh=eh;
 goto L72;}
-ih=hh;
-L73:if(Kg>*((u8*)t_e4d8+*(lg+ih)))jh=ih;
+if(fg+bh>65536-dg){
+fh=rp(A+8);
+gh=r8(C+16);
+hh=r8(C+8);
+if(dg>gh-hh){
+ih=grow_amortized_2b6(C,dg);
+if(!ih)goto L73;
+jh=r8(C+16);
+kh=r8(C+8);}
 else{
-kh=ih+1;
-if(kh!=mg){
-ih=kh;
-goto L73;}
-jh=mg;}
-L72:if(jh==0)goto L70;
-lh=jh;
-L74:if(lh==0){
-w16(B+32,pg+jh);
-mh=0;
-nh=0;}
+jh=gh;
+kh=hh;}
+lh=kh+dg;
+mh=rp(C);
+z16(C+8);
+nh=mh+(i64)kh;
+if((u64)nh-(u64)fh<dg){
+copy_bits_4f4(fh,nh,dg);
+w8(C+8,lh);
+w8(C+16,jh);}
 else{
-oh=lh-1;
-if(*(lg+oh)==46){
-lh=oh;
-goto L74;}
-if(pg+lh>65536-ng){
-ph=rp(B+8);
-qh=r8(D+16);
-rh=r8(D+8);
-if(ng>qh-rh){
-sh=grow_amortized_2b6(D,ng);
-if(!sh)goto L75;
-th=r8(D+16);
-uh=r8(D+8);}
+memmove(nh,fh,dg);
+w8(C+8,lh);
+w8(C+16,jh);
+if(eg)goto L74;}
+w8(A+16,0);
+L74:w16(A+32,0);
+A[50]=1;
+ch=fg;
+dh=1;}
 else{
-th=qh;
-uh=rh;}
-vh=uh+ng;
-wh=rp(D);
-z16(D+8);
-xh=wh+(i64)uh;
-if((u64)xh-(u64)ph<ng){
-copy_bits_4f4(ph,xh,ng);
-w8(D+8,vh);
-w8(D+16,th);}
+oh=fg;
+ph=dg+oh;
+if(ph>dg){
+qh=r8(A+24);
+if(qh-dg<oh){
+rh=grow_amortized_2b6(A+8,oh);
+if(!rh)goto L73;
+sh=r8(A+16);
+th=sh+oh;
+uh=r8(A+24);
+vh=sh;}
 else{
-memmove(xh,ph,ng);
-w8(D+8,vh);
-w8(D+16,th);
-if(og)goto L76;}
-w8(B+16,0);
-L76:w16(B+32,0);
-B[50]=1;
-mh=pg;
-nh=1;}
+th=ph;
+uh=qh;
+vh=dg;}
+if(vh<th)memset(rp(A+8)+(i64)vh,46,oh);
+w8(A+16,th);
+w8(A+24,uh);
+wh=th;}
 else{
-yh=pg;
-zh=ng+yh;
-if(zh>ng){
-Ah=r8(B+24);
-if(Ah-ng<yh){
-Bh=grow_amortized_2b6(B+8,yh);
-if(!Bh)goto L75;
-Ch=r8(B+16);
-Dh=Ch+yh;
-Eh=r8(B+24);
-Fh=Ch;}
+if(dg>ph){
+w8(A+16,ph);
+wh=ph;}
+else wh=dg;}
+xh=r8(A+24);
+if(bh>xh-wh){
+yh=grow_amortized_2b6(A+8,bh);
+if(!yh)goto L73;
+zh=r8(A+24);
+Ah=r8(A+16);}
 else{
-Dh=zh;
-Eh=Ah;
-Fh=ng;}
-if(Fh<Dh)memset(rp(B+8)+(i64)Fh,46,yh);
-w8(B+16,Dh);
-w8(B+24,Eh);
-Gh=Dh;}
-else{
-if(ng>zh){
-w8(B+16,zh);
-Gh=zh;}
-else Gh=ng;}
-Hh=r8(B+24);
-if(lh>Hh-Gh){
-Ih=grow_amortized_2b6(B+8,lh);
-if(!Ih)goto L75;
-Jh=r8(B+24);
-Kh=r8(B+16);}
-else{
-Jh=Hh;
-Kh=Gh;}
-Lh=Kh+lh;
-Mh=rp(B+8)+(i64)Kh;
-if((u64)Mh-(u64)lg<lh)copy_bits_4f4(lg,Mh,lh);
-else memmove(Mh,lg,lh);
-w8(B+16,Lh);
-w8(B+24,Jh);
-w16(B+32,jh-lh);
-mh=0;
-nh=0;}}
-z7(z);
-vg=mh;
-wg=jh;
-xg=nh;
-yg=0;
-zg=0;
-goto L63;
-L70:z48(w);
-if(!Jg){
-Ph=rp(B+8);
-if(ng-65537>=0xffffffffffff0001u){
-Qh=*Ph==95;
-if(ng==2){
-if(!Qh)goto L77;
-switch(Ph[1]){
-case 90:Rh=0;
-goto L78;
+zh=xh;
+Ah=wh;}
+Bh=Ah+bh;
+Ch=rp(A+8)+(i64)Ah;
+if((u64)Ch-(u64)bg<bh)copy_bits_4f4(bg,Ch,bh);
+else memmove(Ch,bg,bh);
+w8(A+16,Bh);
+w8(A+24,zh);
+w16(A+32,Zg-bh);
+ch=0;
+dh=0;}}
+z7(y);
+lg=ch;
+mg=Zg;
+ng=dh;
+og=0;
+pg=0;
+goto L61;
+L68:z48(v);
+if(!zg){
+Fh=rp(A+8);
+if(dg-65537>=0xffffffffffff0001u){
+Gh=*Fh==95;
+if(dg==2){
+if(!Gh)goto L75;
+switch(Fh[1]){
+case 90:Hh=0;
+goto L76;
 case 82:break;
-default:goto L77;
+default:goto L75;
 }}
 else{
-if(!Qh)goto L77;
-switch(Ph[1]){
-case 90:Rh=0;
-goto L78;
+if(!Gh)goto L75;
+switch(Fh[1]){
+case 90:Hh=0;
+goto L76;
 case 82:break;
-case 95:switch(Ph[2]){
-case 90:Rh=0x100000000u;
-goto L78;
-case 82:Rh=0x100000001u;
-goto L78;
-default:goto L77;
+case 95:switch(Fh[2]){
+case 90:Hh=0x100000000u;
+goto L76;
+case 82:Hh=0x100000001u;
+goto L76;
+default:goto L75;
 }
 break;
-default:goto L77;
+default:goto L75;
 }}
-Rh=1;
-L78:Sh=Rh>>32;
-z12(v);
-append_5ae(v,I,C,Rh,Ph+(i64)Sh,ng-Sh,D);
-if(*v!=0){
-if(v[4]!=4){
-Vh=r8(D+16);
-Wh=r8(D+8);
-if(ng>Vh-Wh){
-Xh=grow_amortized_2b6(D,ng);
-if(!Xh)goto L79;
-Yh=r8(D+16);
-Zh=r8(D+8);}
+Hh=1;
+L76:Ih=Hh>>32;
+z12(u);
+append_5ae(u,H,B,Hh,Fh+(i64)Ih,dg-Ih,C);
+if(*u!=0){
+if(u[4]!=4){
+Lh=r8(C+16);
+Mh=r8(C+8);
+if(dg>Lh-Mh){
+Nh=grow_amortized_2b6(C,dg);
+if(!Nh)goto L77;
+Oh=r8(C+16);
+Ph=r8(C+8);}
 else{
-Yh=Vh;
-Zh=Wh;}
-ai=Zh+ng;
-bi=rp(D)+(i64)Zh;
-if((u64)bi-(u64)Ph<ng)copy_bits_4f4(Ph,bi,ng);
-else memmove(bi,Ph,ng);
-w8(D+8,ai);
-w8(D+16,Yh);
-Th=ng;
-Uh=16;
+Oh=Lh;
+Ph=Mh;}
+Qh=Ph+dg;
+Rh=rp(C)+(i64)Ph;
+if((u64)Rh-(u64)Fh<dg)copy_bits_4f4(Fh,Rh,dg);
+else memmove(Rh,Fh,dg);
+w8(C+8,Qh);
+w8(C+16,Oh);
+Jh=dg;
+Kh=16;
+goto L78;}
+L77:goto L79;}
+Jh=0;
+Kh=8;
+L78:w8(A+56,uadd64(r8(A+56),1));
+Sh=A+56+(i64)Kh;
+w8(Sh,uadd64(r8(Sh),1));
+Th=Jh;
 goto L80;}
-L79:goto L81;}
-Th=0;
-Uh=8;
-L80:w8(B+56,uadd64(r8(B+56),1));
-ci=B+56+(i64)Uh;
-w8(ci,uadd64(r8(ci),1));
-di=Th;
+L75:Uh=r8(C+16);
+Vh=r8(C+8);
+if(dg>Uh-Vh){
+Wh=grow_amortized_2b6(C,dg);
+if(!Wh)goto L79;
+Xh=r8(C+16);
+Yh=r8(C+8);}
+else{
+Xh=Uh;
+Yh=Vh;}
+Zh=Yh+dg;
+ai=rp(C);
+z16(C+8);
+bi=ai+(i64)Yh;
+if((u64)bi-(u64)Fh<dg){
+copy_bits_4f4(Fh,bi,dg);
+w8(C+8,Zh);
+w8(C+16,Xh);
+Th=0;}
+else{
+memmove(bi,Fh,dg);
+w8(C+8,Zh);
+w8(C+16,Xh);
+if(eg){
+ci=0;
+goto L81;}
+Th=0;}
+L80:w8(A+16,0);
+ci=Th;
+L81:z18(A+32);
+Dh=fg;
+Eh=ci;
 goto L82;}
-L77:ei=r8(D+16);
-fi=r8(D+8);
-if(ng>ei-fi){
-gi=grow_amortized_2b6(D,ng);
-if(!gi)goto L81;
+end_within_69d(v,A,H,B,C);
+if(*v==0){
+Dh=r16(v+16);
+Eh=r8(v+32);
+goto L82;}
+L79:goto L73;
+L82:z7(y);
+lg=Dh;
+mg=1;
+ng=1;
+og=Eh;
+pg=0;
+goto L61;
+L73:goto L83;
+L61:w16(x,lg);
+w8(x+16,mg);
+x[24]=ng;
+memcpy(x+25,y,7);
+w8(x+32,og);
+w8(x+40,pg);
+di=r8(C+8);
+ei=r8(D+32);
+if(ei<=(di^18446744073709551615u)){
+fi=ei+di;
+if(fi<=r8(D+24)){
+gi=rp(C);
 hi=r8(D+16);
-ii=r8(D+8);}
+ii=r8(D+8);
+if(di>hi-ii){
+ji=grow_amortized_2b6(D,di);
+if(!ji)goto L83;
+ki=r8(D+16);
+li=r8(D+8);}
 else{
-hi=ei;
-ii=fi;}
-ji=ii+ng;
-ki=rp(D);
-z16(D+8);
-li=ki+(i64)ii;
-if((u64)li-(u64)Ph<ng){
-copy_bits_4f4(Ph,li,ng);
-w8(D+8,ji);
-w8(D+16,hi);
-di=0;}
-else{
-memmove(li,Ph,ng);
-w8(D+8,ji);
-w8(D+16,hi);
-if(og){
-mi=0;
-goto L83;}
-di=0;}
-L82:w8(B+16,0);
-mi=di;
-L83:z18(B+32);
-Nh=pg;
-Oh=mi;
-goto L84;}
-end_within_69d(w,B,I,C,D);
-if(*w==0){
-Nh=r16(w+16);
-Oh=r8(w+32);
-goto L84;}
-L81:goto L75;
-L84:z7(z);
-vg=Nh;
-wg=1;
-xg=1;
-yg=Oh;
-zg=0;
-goto L63;
-L75:goto L85;
-L63:w16(y,vg);
-w8(y+16,wg);
-y[24]=xg;
-memcpy(y+25,z,7);
-w8(y+32,yg);
-w8(y+40,zg);
-ni=r8(D+8);
-oi=r8(E+32);
-if(oi<=(ni^18446744073709551615u)){
-pi=oi+ni;
-if(pi<=r8(E+24)){
-qi=rp(D);
-ri=r8(E+16);
-si=r8(E+8);
-if(ni>ri-si){
-ti=grow_amortized_2b6(E,ni);
-if(!ti)goto L85;
-ui=r8(E+16);
-vi=r8(E+8);}
-else{
-ui=ri;
-vi=si;}
-wi=vi+ni;
-xi=rp(E)+(i64)vi;
-if((u64)xi-(u64)qi<ni)copy_bits_4f4(qi,xi,ni);
-else memmove(xi,qi,ni);
-w8(E+8,wi);
-w8(E+16,ui);}
-w8(E+32,pi);
-if(ni!=0)w8(D+8,0);
-yi=add_following_166(E,y,lg,wg);
-if(!(yi&1)){
-zi=wg+kg;
-if(zi>=jg)goto L61;
-kg=zi;
-goto L62;}}
-L85:goto L86;
-L61:Ai=A[9];
-if(A[8]&1){
-Bi=end_segment_bdb(I,C,B,D,E);
-if(Bi!=0)goto L86;}
-Ci=jg+gg;
-if(Ci>=e)goto L87;
-gg=Ci;
-hg=Ai;
-goto L60;
-L86:if(r8(E+16)!=0)port_rattle_dealloc(rp(E));
-if(r8(D+16)!=0)port_rattle_dealloc(rp(D));
-memcpy(F,C,1544);
-drop_1dd(F);
-if(r8(B+24)==0)goto L88;
-goto L89;}
-L87:Di=end_segment_bdb(I,C,B,D,E);
-if(!(Di&1)){
-Ei=rp(E);
-Fi=r8(E+8);
-Gi=r8(E+16);
-Hi=r8(E+32);
-Ii=r8(B+56);
-Ji=r8(B+64);
-Ki=r8(B+72);
-if(r8(D+16)!=0)port_rattle_dealloc(rp(D));
-memcpy(H,C,1544);
-drop_1dd(H);
-if(r8(B+24)!=0)port_rattle_dealloc(rp(B+8));
-if(g<Hi){
-Li=6;
-Mi=Hi;}
-else{
-if(g<Fi){
-Li=6;
-Mi=Fi;}
-else{
-if((u64)f-(u64)Ei<Fi)copy_bits_4f4(Ei,f,Fi);
-else memmove(f,Ei,Fi);
-w8(h,Ii);
-w8(h+8,Ji);
-w8(h+16,Ki);
-Li=0;
-Mi=Fi;}}
-if(Gi==0){
-Ni=Mi;
-Oi=Li;
-goto L90;}
-port_rattle_dealloc(Ei);
-Ni=Mi;
-Oi=Li;
-goto L90;}
-if(r8(E+16)!=0)port_rattle_dealloc(rp(E));
-if(r8(D+16)!=0)port_rattle_dealloc(rp(D));
-memcpy(G,C,1544);
+ki=hi;
+li=ii;}
+mi=li+di;
+ni=rp(D)+(i64)li;
+if((u64)ni-(u64)gi<di)copy_bits_4f4(gi,ni,di);
+else memmove(ni,gi,di);
+w8(D+8,mi);
+w8(D+16,ki);}
+w8(D+32,fi);
+if(di!=0)w8(C+8,0);
+oi=add_following_166(D,x,bg,mg);
+if(!(oi&1)){
+pi=mg+ag;
+if(pi>=Zf)goto L59;
+ag=pi;
+goto L60;}}
+L83:goto L84;
+L59:qi=z[9];
+if(z[8]&1){
+ri=end_segment_bdb(H,B,A,C,D);
+if(ri!=0)goto L84;}
+si=Zf+Wf;
+if(si>=e)goto L85;
+Wf=si;
+Xf=qi;
+goto L58;
+L84:if(r8(D+16)!=0)port_rattle_dealloc(rp(D));
+if(r8(C+16)!=0)port_rattle_dealloc(rp(C));
+memcpy(E,B,1544);
+drop_1dd(E);
+if(r8(A+24)==0)goto L86;
+goto L87;}
+L85:ti=end_segment_bdb(H,B,A,C,D);
+if(!(ti&1)){
+ui=rp(D);
+vi=r8(D+8);
+wi=r8(D+16);
+xi=r8(D+32);
+yi=r8(A+56);
+zi=r8(A+64);
+Ai=r8(A+72);
+if(r8(C+16)!=0)port_rattle_dealloc(rp(C));
+memcpy(G,B,1544);
 drop_1dd(G);
-if(r8(B+24)==0)goto L88;
-L89:port_rattle_dealloc(rp(B+8));
-L88:Ni=0;
-Oi=5;}
+if(r8(A+24)!=0)port_rattle_dealloc(rp(A+8));
+if(g<xi){
+Bi=6;
+Ci=xi;}
 else{
-w8(J,r8(I));
-J[8]=ma&1;
-J[9]=oa;
-zero_all(s+1512,144);
-z24(t);
-z40(u);
-*r=pa;
-z7(r+1);
-wp(r+8,(u8*)65536);
-z64(r+16);
-Pi=(u64)(u8*)65536;
+if(g<vi){
+Bi=6;
+Ci=vi;}
+else{
+if((u64)f-(u64)ui<vi)copy_bits_4f4(ui,f,vi);
+else memmove(f,ui,vi);
+w8(h,yi);
+w8(h+8,zi);
+w8(h+16,Ai);
+Bi=0;
+Ci=vi;}}
+if(wi==0){
+Di=Ci;
+Ei=Bi;
+goto L88;}
+port_rattle_dealloc(ui);
+Di=Ci;
+Ei=Bi;
+goto L88;}
+if(r8(D+16)!=0)port_rattle_dealloc(rp(D));
+if(r8(C+16)!=0)port_rattle_dealloc(rp(C));
+memcpy(F,B,1544);
+drop_1dd(F);
+if(r8(A+24)==0)goto L86;
+L87:port_rattle_dealloc(rp(A+8));
+L86:Di=0;
+Ei=5;}
+else{
+w8(I,r8(H));
+I[8]=ka&1;
+I[9]=ma;
+zero_all(r+1512,144);
+z24(s);
+z40(t);
+*q=na;
+z7(q+1);
+wp(q+8,(u8*)65536);
+z64(q+16);
+Fi=(u64)(u8*)65536;
+wp(r,(u8*)65536);
+z24(r+8);
+wp(r+32,(u8*)65536);
+z16(r+40);
+wp(r+56,(u8*)65536);
+z32(r+64);
+wp(r+96,(u8*)65536);
+z16(r+104);
+wp(r+120,(u8*)65536);
+z32(r+128);
+wp(r+160,(u8*)65536);
+z80(r+168);
+wp(r+248,(u8*)65536);
+z16(r+256);
+wp(r+272,(u8*)65536);
+z40(r+280);
+wp(r+320,(u8*)65536);
+z16(r+328);
+wp(r+344,(u8*)65536);
+z16(r+352);
+wp(r+368,(u8*)65536);
+z16(r+376);
+wp(r+392,(u8*)65536);
+z16(r+400);
+wp(r+416,(u8*)65536);
+z16(r+424);
+wp(r+440,(u8*)65536);
+z48(r+448);
+wp(r+496,(u8*)65536);
+z32(r+504);
+wp(r+536,(u8*)65536);
+z32(r+544);
+wp(r+576,(u8*)65536);
+z104(r+584);
+w8(r+688,Fi);
+z40(r+696);
+w8(r+736,Fi);
+z16(r+744);
+wp(r+760,(u8*)65536);
+z32(r+768);
+wp(r+800,(u8*)65536);
+z24(r+808);
+wp(r+832,(u8*)65536);
+z16(r+840);
+wp(r+856,(u8*)65536);
+z32(r+864);
+wp(r+896,(u8*)65536);
+z16(r+904);
+wp(r+920,(u8*)65536);
+z24(r+928);
+wp(r+952,(u8*)65536);
+z16(r+960);
+wp(r+976,(u8*)65536);
+z16(r+984);
+wp(r+1000,(u8*)65536);
+z40(r+1008);
+wp(r+1048,(u8*)65536);
+z16(r+1056);
+wp(r+1072,(u8*)65536);
+z16(r+1080);
+wp(r+1096,(u8*)65536);
+z16(r+1104);
+wp(r+1120,(u8*)65536);
+z16(r+1128);
+wp(r+1144,(u8*)65536);
+z16(r+1152);
+wp(r+1168,(u8*)65536);
+z48(r+1176);
+wp(r+1224,(u8*)65536);
+z32(r+1232);
+wp(r+1264,(u8*)65536);
+z40(r+1272);
+wp(r+1312,(u8*)65536);
+z32(r+1320);
+wp(r+1352,(u8*)65536);
+z16(r+1360);
+wp(r+1376,(u8*)65536);
+z48(r+1384);
+w8(r+1432,Fi);
+z40(r+1440);
+w8(r+1480,Fi);
+z16(r+1488);
+wp(r+1504,(u8*)65536);
+z32(r+1512);
+wp(r+1544,(u8*)65536);
+z32(r+1552);
+wp(r+1584,(u8*)65536);
+z16(r+1592);
+wp(r+1608,(u8*)65536);
+z16(r+1616);
+wp(r+1632,(u8*)65536);
+z16(r+1640);
 wp(s,(u8*)65536);
-z24(s+8);
-wp(s+32,(u8*)65536);
-z16(s+40);
-wp(s+56,(u8*)65536);
-z32(s+64);
-wp(s+96,(u8*)65536);
-z16(s+104);
-wp(s+120,(u8*)65536);
-z32(s+128);
-wp(s+160,(u8*)65536);
-z80(s+168);
-wp(s+248,(u8*)65536);
-z16(s+256);
-wp(s+272,(u8*)65536);
-z40(s+280);
-wp(s+320,(u8*)65536);
-z16(s+328);
-wp(s+344,(u8*)65536);
-z16(s+352);
-wp(s+368,(u8*)65536);
-z16(s+376);
-wp(s+392,(u8*)65536);
-z16(s+400);
-wp(s+416,(u8*)65536);
-z16(s+424);
-wp(s+440,(u8*)65536);
-z48(s+448);
-wp(s+496,(u8*)65536);
-z32(s+504);
-wp(s+536,(u8*)65536);
-z32(s+544);
-wp(s+576,(u8*)65536);
-z104(s+584);
-w8(s+688,Pi);
-z40(s+696);
-w8(s+736,Pi);
-z16(s+744);
-wp(s+760,(u8*)65536);
-z32(s+768);
-wp(s+800,(u8*)65536);
-z24(s+808);
-wp(s+832,(u8*)65536);
-z16(s+840);
-wp(s+856,(u8*)65536);
-z32(s+864);
-wp(s+896,(u8*)65536);
-z16(s+904);
-wp(s+920,(u8*)65536);
-z24(s+928);
-wp(s+952,(u8*)65536);
-z16(s+960);
-wp(s+976,(u8*)65536);
-z16(s+984);
-wp(s+1000,(u8*)65536);
-z40(s+1008);
-wp(s+1048,(u8*)65536);
-z16(s+1056);
-wp(s+1072,(u8*)65536);
-z16(s+1080);
-wp(s+1096,(u8*)65536);
-z16(s+1104);
-wp(s+1120,(u8*)65536);
-z16(s+1128);
-wp(s+1144,(u8*)65536);
-z16(s+1152);
-wp(s+1168,(u8*)65536);
-z48(s+1176);
-wp(s+1224,(u8*)65536);
-z32(s+1232);
-wp(s+1264,(u8*)65536);
-z40(s+1272);
-wp(s+1312,(u8*)65536);
-z32(s+1320);
-wp(s+1352,(u8*)65536);
-z16(s+1360);
-wp(s+1376,(u8*)65536);
-z48(s+1384);
-w8(s+1432,Pi);
-z40(s+1440);
-w8(s+1480,Pi);
-z16(s+1488);
-wp(s+1504,(u8*)65536);
-z32(s+1512);
-wp(s+1544,(u8*)65536);
-z32(s+1552);
-wp(s+1584,(u8*)65536);
-z16(s+1592);
-wp(s+1608,(u8*)65536);
-z16(s+1616);
-wp(s+1632,(u8*)65536);
-z16(s+1640);
+z16(s+8);
 wp(t,(u8*)65536);
 z16(t+8);
-wp(u,(u8*)65536);
-z16(u+8);
-w8(u+24,g);
-w8(u+32,0);
+w8(t+24,g);
+w8(t+32,0);
 if(e!=0){
-Qi=0;
-Ri=0;
-L91:Si=d+(i64)Qi;
-z16(q);
-first_segment_4a3(q,*r,Si,e-Qi,Ri);
-Ti=r8(q);
-z32(o+16);
-if(Ti==0)goto L92;
-Ui=0;
-L93:Vi=Si+(i64)Ui;
-Wi=Ti-Ui;
-z48(n);
-Xi=r8(r+16);
-Yi=Xi==0;
-Zi=r16(r+32);
-if(Yi&&Zi==0){
-if(r[50]&1){
-pass_6c7(n,r,Vi,Wi);
-aj=r16(n);
-bj=r8(n+16);
-cj=n[24];
-dj=r8(n+32);
-ej=r8(n+40);
-memcpy(p,n+25,7);
-fj=aj;
-gj=bj;
-hj=cj;
-ij=dj;
-jj=ej;
-goto L94;}
-kj=*r;
-lj=r[48];
-if(Wi==0)mj=0;
+Gi=0;
+Hi=0;
+L89:Ii=d+(i64)Gi;
+z16(p);
+first_segment_4a3(p,*q,Ii,e-Gi,Hi);
+Ji=r8(p);
+if(Ji==0)goto L90;
+Ki=0;
+L91:Li=Ii+(i64)Ki;
+Mi=Ji-Ki;
+z48(m);
+Ni=r8(q+16);
+Oi=Ni==0;
+Pi=r16(q+32);
+if(Oi&&Pi==0){
+if(q[50]&1){
+pass_6c7(m,q,Li,Mi);
+Qi=r16(m);
+Ri=r8(m+16);
+Si=m[24];
+Ti=r8(m+32);
+Ui=r8(m+40);
+memcpy(o,m+25,7);
+Vi=Qi;
+Wi=Ri;
+Xi=Si;
+Yi=Ti;
+Zi=Ui;
+goto L92;}
+aj=*q;
+bj=q[48];
+if(Mi==0)cj=0;
 else{
-nj=r[49];
-oj=kj+49;
-pj=kj==2;
-qj=0;
-L95:rj=Vi+qj;
-if(*rj==95){
-if(qj==0){
-switch(lj){
-case 0:sj=kj;
-goto L96;
-case 1:if(pj){
-switch(nj){
-case 46:case 36:tj=1;
-uj=49;
-goto L97;
+dj=q[49];
+ej=aj+49;
+fj=aj==2;
+gj=0;
+L93:hj=Li+gj;
+if(*hj==95){
+if(gj==0){
+switch(bj){
+case 0:ij=aj;
+goto L94;
+case 1:if(fj){
+switch(dj){
+case 46:case 36:jj=1;
+kj=49;
+goto L95;
 default:break;}}
 break;
-case 2:if(pj){
-switch(nj){
-case 46:case 36:tj=1;
-uj=49;
-goto L97;
+case 2:if(fj){
+switch(dj){
+case 46:case 36:jj=1;
+kj=49;
+goto L95;
 default:break;}}
 break;
 default:NEVER;
 }}
 else{
-vj=*((u8*)t_e4d8+rj[-1]);
-if(oj>vj){
-if(vj<=(kj==0?48:49)){
-xj=0;
-yj=0;
-zj=qj;
-goto L98;}
-wj=place_in_stretch_597(kj,Vi,qj,lj);
-xj=wj.f1;
-yj=wj.f0;
-zj=qj;
-goto L98;}}}
-Aj=qj+1;
-Bj=Wi-Aj;
-if(Bj<16)Cj=0;
-else{
-Dj=Vi+(i64)Aj;
-Ej=cttz(v16_eq(v16_at(Dj),splat(95)),16);
-if((Bj<32)|(Ej<16))Cj=Ej;
-else{
-Fj=cttz(v16_eq(v16_at(Dj+16),splat(95)),16);
-if(Fj<16)Cj=Fj|16;
-else{
-if(Bj<=95){
-Cj=32;
-goto L99;}
-Gj=32;
-L100:Hj=Dj+(i64)Gj;
-if((((v16_eq(v16_at(Hj),splat(95))|v16_eq(v16_at(Hj+16),splat(95)))|v16_eq(v16_at(Hj+32),splat(95)))|v16_eq(v16_at(Hj+48),splat(95)))==0){
-Ij=Gj+64;
-if(Bj-Ij>63){
-Gj=Ij;
-goto L100;}
-Cj=Ij;}
-else Cj=Gj;}}}
-L99:Jj=Cj+Aj;
-if(Jj<Wi){
-qj=Jj;
-goto L95;}
-mj=Jj;}
-if(*((u8*)t_e4d8+*(Vi+(i64)mj-1))>(kj==0?48:49)){
-Kj=place_in_stretch_597(kj,Vi,mj,lj);
-Lj=Kj.f0;
-Mj=Kj.f1;}
-else{
-Lj=0;
-Mj=0;}
-if(mj==0){
-sj=kj;
+lj=*((u8*)t_e4d8+hj[-1]);
+if(ej>lj){
+if(lj<=(aj==0?48:49)){
+nj=0;
+oj=0;
+pj=gj;
 goto L96;}
-xj=Mj;
-yj=Lj;
-zj=mj;
-L98:w2(r+48,(u16)((u32)xj<<8)|yj);
-z7(p);
-fj=0;
+mj=place_in_stretch_597(aj,Li,gj,bj);
+nj=mj.f1;
+oj=mj.f0;
+pj=gj;
+goto L96;}}}
+qj=gj+1;
+rj=Mi-qj;
+if(rj<16)sj=0;
+else{
+tj=Li+(i64)qj;
+uj=cttz(v16_eq(v16_at(tj),splat(95)),16);
+if((rj<32)|(uj<16))sj=uj;
+else{
+vj=cttz(v16_eq(v16_at(tj+16),splat(95)),16);
+if(vj<16)sj=vj|16;
+else{
+if(rj<=95){
+sj=32;
+goto L97;}
+wj=32;
+L98:xj=tj+(i64)wj;
+if((((v16_eq(v16_at(xj),splat(95))|v16_eq(v16_at(xj+16),splat(95)))|v16_eq(v16_at(xj+32),splat(95)))|v16_eq(v16_at(xj+48),splat(95)))==0){
+yj=wj+64;
+if(rj-yj>63){
+wj=yj;
+goto L98;}
+sj=yj;}
+else sj=wj;}}}
+L97:zj=sj+qj;
+if(zj<Mi){
 gj=zj;
-hj=1;
-ij=0;
-jj=0;
+goto L93;}
+cj=zj;}
+if(*((u8*)t_e4d8+*(Li+(i64)cj-1))>(aj==0?48:49)){
+Aj=place_in_stretch_597(aj,Li,cj,bj);
+Bj=Aj.f0;
+Cj=Aj.f1;}
+else{
+Bj=0;
+Cj=0;}
+if(cj==0){
+ij=aj;
 goto L94;}
-sj=*r;
-L96:tj=sj==2;
-uj=sj==1?50:49;
-L97:if(uj>*((u8*)t_e4d8+*Vi))goto L101;
-Nj=0;
-L102:if(Wi-Nj>15){
-Oj=v16_at(Vi+Nj);
-Pj=cttz(v16_ne(Oj,splat(36))&(v16_ne(Oj,splat(46))&(v16_ne(Oj,splat(95))&(v16_ult(v16_add(Oj,splat(198)),splat(246))&v16_ult(v16_add(v16_or(Oj,splat(32)),splat(133)),splat(230))))),16);
-Qj=Nj+Pj;
-if(Pj>=16){
-Nj=Qj;
+nj=Cj;
+oj=Bj;
+pj=cj;
+L96:w2(q+48,(u16)((u32)nj<<8)|oj);
+z7(o);
+Vi=0;
+Wi=pj;
+Xi=1;
+Yi=0;
+Zi=0;
+goto L92;}
+ij=*q;
+L94:jj=ij==2;
+kj=ij==1?50:49;
+L95:if(kj>*((u8*)t_e4d8+*Li))goto L99;
+Dj=0;
+L100:if(Mi-Dj>15){
+Ej=v16_at(Li+Dj);
+Fj=cttz(v16_ne(Ej,splat(36))&(v16_ne(Ej,splat(46))&(v16_ne(Ej,splat(95))&(v16_ult(v16_add(Ej,splat(198)),splat(246))&v16_ult(v16_add(v16_or(Ej,splat(32)),splat(133)),splat(230))))),16);
+Gj=Dj+Fj;
+if(Fj>=16){
+Dj=Gj;
+goto L100;}
+Hj=Gj;}
+else Hj=Dj;
+if(Hj>=Mi){
+Jj=Hj;
+goto L101;}
+Ij=Hj;
+L102:if(kj>*((u8*)t_e4d8+*(Li+Ij)))Jj=Ij;
+else{
+Kj=Ij+1;
+if(Kj!=Mi){
+Ij=Kj;
 goto L102;}
-Rj=Qj;}
-else Rj=Nj;
-if(Rj>=Wi){
-Tj=Rj;
+Jj=Mi;}
+L101:if(Jj==0)goto L99;
+Lj=Jj;
+L103:if(Lj==0){
+w16(q+32,Pi+Jj);
+Mj=0;
+Nj=0;}
+else{
+Oj=Lj-1;
+if(*(Li+Oj)==46){
+Lj=Oj;
 goto L103;}
-Sj=Rj;
-L104:if(uj>*((u8*)t_e4d8+*(Vi+Sj)))Tj=Sj;
+if(Pi+Lj>65536-Ni){
+Pj=rp(q+8);
+Qj=r8(s+16);
+Rj=r8(s+8);
+if(Ni>Qj-Rj){
+Sj=grow_amortized_2b6(s,Ni);
+if(!Sj)goto L104;
+Tj=r8(s+16);
+Uj=r8(s+8);}
 else{
-Uj=Sj+1;
-if(Uj!=Wi){
-Sj=Uj;
-goto L104;}
-Tj=Wi;}
-L103:if(Tj==0)goto L101;
-Vj=Tj;
-L105:if(Vj==0){
-w16(r+32,Zi+Tj);
-Wj=0;
-Xj=0;}
+Tj=Qj;
+Uj=Rj;}
+Vj=Uj+Ni;
+Wj=rp(s);
+z16(s+8);
+Xj=Wj+(i64)Uj;
+if((u64)Xj-(u64)Pj<Ni){
+copy_bits_4f4(Pj,Xj,Ni);
+w8(s+8,Vj);
+w8(s+16,Tj);}
 else{
-Yj=Vj-1;
-if(*(Vi+Yj)==46){
-Vj=Yj;
-goto L105;}
-if(Zi+Vj>65536-Xi){
-Zj=rp(r+8);
-ak=r8(t+16);
-bk=r8(t+8);
-if(Xi>ak-bk){
-ck=grow_amortized_2b6(t,Xi);
-if(!ck)goto L106;
-dk=r8(t+16);
-ek=r8(t+8);}
+memmove(Xj,Pj,Ni);
+w8(s+8,Vj);
+w8(s+16,Tj);
+if(Oi)goto L105;}
+w8(q+16,0);
+L105:w16(q+32,0);
+q[50]=1;
+Mj=Pi;
+Nj=1;}
 else{
-dk=ak;
-ek=bk;}
-fk=ek+Xi;
-gk=rp(t);
-z16(t+8);
-hk=gk+(i64)ek;
-if((u64)hk-(u64)Zj<Xi){
-copy_bits_4f4(Zj,hk,Xi);
-w8(t+8,fk);
-w8(t+16,dk);}
+Yj=Pi;
+Zj=Ni+Yj;
+if(Zj>Ni){
+ak=r8(q+24);
+if(ak-Ni<Yj){
+bk=grow_amortized_2b6(q+8,Yj);
+if(!bk)goto L104;
+ck=r8(q+16);
+dk=ck+Yj;
+ek=r8(q+24);
+fk=ck;}
 else{
-memmove(hk,Zj,Xi);
-w8(t+8,fk);
-w8(t+16,dk);
-if(Yi)goto L107;}
-w8(r+16,0);
-L107:w16(r+32,0);
-r[50]=1;
-Wj=Zi;
-Xj=1;}
+dk=Zj;
+ek=ak;
+fk=Ni;}
+if(fk<dk)memset(rp(q+8)+(i64)fk,46,Yj);
+w8(q+16,dk);
+w8(q+24,ek);
+gk=dk;}
 else{
-ik=Zi;
-jk=Xi+ik;
-if(jk>Xi){
-kk=r8(r+24);
-if(kk-Xi<ik){
-lk=grow_amortized_2b6(r+8,ik);
-if(!lk)goto L106;
-mk=r8(r+16);
-nk=mk+ik;
-ok=r8(r+24);
-pk=mk;}
+if(Ni>Zj){
+w8(q+16,Zj);
+gk=Zj;}
+else gk=Ni;}
+hk=r8(q+24);
+if(Lj>hk-gk){
+ik=grow_amortized_2b6(q+8,Lj);
+if(!ik)goto L104;
+jk=r8(q+24);
+kk=r8(q+16);}
 else{
-nk=jk;
-ok=kk;
-pk=Xi;}
-if(pk<nk)memset(rp(r+8)+(i64)pk,46,ik);
-w8(r+16,nk);
-w8(r+24,ok);
-qk=nk;}
-else{
-if(Xi>jk){
-w8(r+16,jk);
-qk=jk;}
-else qk=Xi;}
-rk=r8(r+24);
-if(Vj>rk-qk){
-sk=grow_amortized_2b6(r+8,Vj);
-if(!sk)goto L106;
-tk=r8(r+24);
-uk=r8(r+16);}
-else{
-tk=rk;
-uk=qk;}
-vk=uk+Vj;
-wk=rp(r+8)+(i64)uk;
-if((u64)wk-(u64)Vi<Vj)copy_bits_4f4(Vi,wk,Vj);
-else memmove(wk,Vi,Vj);
-w8(r+16,vk);
-w8(r+24,tk);
-w16(r+32,Tj-Vj);
-Wj=0;
-Xj=0;}}
-z7(p);
-fj=Wj;
-gj=Tj;
-hj=Xj;
-ij=0;
-jj=0;
-goto L94;
-L101:z48(m);
-if(!tj){
-zk=rp(r+8);
-if(Xi-65537>=0xffffffffffff0001u){
-Ak=*zk==95;
-if(Xi==2){
-if(!Ak)goto L108;
-switch(zk[1]){
-case 90:Bk=0;
-goto L109;
+jk=hk;
+kk=gk;}
+lk=kk+Lj;
+mk=rp(q+8)+(i64)kk;
+if((u64)mk-(u64)Li<Lj)copy_bits_4f4(Li,mk,Lj);
+else memmove(mk,Li,Lj);
+w8(q+16,lk);
+w8(q+24,jk);
+w16(q+32,Jj-Lj);
+Mj=0;
+Nj=0;}}
+z7(o);
+Vi=Mj;
+Wi=Jj;
+Xi=Nj;
+Yi=0;
+Zi=0;
+goto L92;
+L99:z48(l);
+if(!jj){
+pk=rp(q+8);
+if(Ni-65537>=0xffffffffffff0001u){
+qk=*pk==95;
+if(Ni==2){
+if(!qk)goto L106;
+switch(pk[1]){
+case 90:rk=0;
+goto L107;
 case 82:break;
-default:goto L108;
+default:goto L106;
 }}
 else{
-if(!Ak)goto L108;
-switch(zk[1]){
-case 90:Bk=0;
-goto L109;
+if(!qk)goto L106;
+switch(pk[1]){
+case 90:rk=0;
+goto L107;
 case 82:break;
-case 95:switch(zk[2]){
-case 90:Bk=0x100000000u;
-goto L109;
-case 82:Bk=0x100000001u;
-goto L109;
-default:goto L108;
+case 95:switch(pk[2]){
+case 90:rk=0x100000000u;
+goto L107;
+case 82:rk=0x100000001u;
+goto L107;
+default:goto L106;
 }
 break;
-default:goto L108;
+default:goto L106;
 }}
-Bk=1;
-L109:Ck=Bk>>32;
-z12(l);
-append_a0b_2(l,J,s,Bk,zk+(i64)Ck,Xi-Ck,t);
-if(*l!=0){
-if(l[4]!=4){
-Fk=r8(t+16);
-Gk=r8(t+8);
-if(Xi>Fk-Gk){
-Hk=grow_amortized_2b6(t,Xi);
-if(!Hk)goto L110;
-Ik=r8(t+16);
-Jk=r8(t+8);}
+rk=1;
+L107:sk=push_text_8d8(I,r,pk,Ni,rk,rk>>32,s);
+if(sk.f0!=0)goto L108;
+tk=sk.f1&1;
+w8(q+56,uadd64(r8(q+56),1));
+uk=q+(u64)(tk?64:72);
+w8(uk,uadd64(r8(uk),1));
+vk=tk?0:Ni;
+goto L109;}
+L106:wk=r8(s+16);
+xk=r8(s+8);
+if(Ni>wk-xk){
+yk=grow_amortized_2b6(s,Ni);
+if(!yk)goto L108;
+zk=r8(s+16);
+Ak=r8(s+8);}
 else{
-Ik=Fk;
-Jk=Gk;}
-Kk=Jk+Xi;
-Lk=rp(t)+(i64)Jk;
-if((u64)Lk-(u64)zk<Xi)copy_bits_4f4(zk,Lk,Xi);
-else memmove(Lk,zk,Xi);
-w8(t+8,Kk);
-w8(t+16,Ik);
-Dk=Xi;
-Ek=16;
+zk=wk;
+Ak=xk;}
+Bk=Ak+Ni;
+Ck=rp(s);
+z16(s+8);
+Dk=Ck+(i64)Ak;
+if((u64)Dk-(u64)pk<Ni){
+copy_bits_4f4(pk,Dk,Ni);
+w8(s+8,Bk);
+w8(s+16,zk);
+vk=0;}
+else{
+memmove(Dk,pk,Ni);
+w8(s+8,Bk);
+w8(s+16,zk);
+if(Oi){
+Ek=0;
+goto L110;}
+vk=0;}
+L109:w8(q+16,0);
+Ek=vk;
+L110:z18(q+32);
+nk=Pi;
+ok=Ek;
 goto L111;}
-L110:goto L112;}
-Dk=0;
-Ek=8;
-L111:w8(r+56,uadd64(r8(r+56),1));
-Mk=r+56+(i64)Ek;
-w8(Mk,uadd64(r8(Mk),1));
-Nk=Dk;
-goto L113;}
-L108:Ok=r8(t+16);
-Pk=r8(t+8);
-if(Xi>Ok-Pk){
-Qk=grow_amortized_2b6(t,Xi);
-if(!Qk)goto L112;
-Rk=r8(t+16);
-Sk=r8(t+8);}
+end_within_b20(l,q,I,r,s);
+if(*l==0){
+nk=r16(l+16);
+ok=r8(l+32);
+goto L111;}
+L108:goto L104;
+L111:z7(o);
+Vi=nk;
+Wi=1;
+Xi=1;
+Yi=ok;
+Zi=0;
+goto L92;
+L104:goto L112;
+L92:w16(n,Vi);
+w8(n+16,Wi);
+n[24]=Xi;
+memcpy(n+25,o,7);
+w8(n+32,Yi);
+w8(n+40,Zi);
+Fk=r8(s+8);
+Gk=r8(t+32);
+if(Gk<=(Fk^18446744073709551615u)){
+Hk=Gk+Fk;
+if(Hk<=r8(t+24)){
+Ik=rp(s);
+Jk=r8(t+16);
+Kk=r8(t+8);
+if(Fk>Jk-Kk){
+Lk=grow_amortized_2b6(t,Fk);
+if(!Lk)goto L112;
+Mk=r8(t+16);
+Nk=r8(t+8);}
 else{
-Rk=Ok;
-Sk=Pk;}
-Tk=Sk+Xi;
-Uk=rp(t);
-z16(t+8);
-Vk=Uk+(i64)Sk;
-if((u64)Vk-(u64)zk<Xi){
-copy_bits_4f4(zk,Vk,Xi);
-w8(t+8,Tk);
-w8(t+16,Rk);
-Nk=0;}
-else{
-memmove(Vk,zk,Xi);
-w8(t+8,Tk);
-w8(t+16,Rk);
-if(Yi){
-Wk=0;
-goto L114;}
-Nk=0;}
-L113:w8(r+16,0);
-Wk=Nk;
-L114:z18(r+32);
-xk=Zi;
-yk=Wk;
-goto L115;}
-end_within_b20(m,r,J,s,t);
-if(*m==0){
-xk=r16(m+16);
-yk=r8(m+32);
-goto L115;}
-L112:goto L106;
-L115:z7(p);
-fj=xk;
-gj=1;
-hj=1;
-ij=yk;
-jj=0;
-goto L94;
-L106:goto L116;
-L94:w16(o,fj);
-w8(o+16,gj);
-o[24]=hj;
-memcpy(o+25,p,7);
-w8(o+32,ij);
-w8(o+40,jj);
-Xk=r8(t+8);
-Yk=r8(u+32);
-if(Yk<=(Xk^18446744073709551615u)){
-Zk=Yk+Xk;
-if(Zk<=r8(u+24)){
-al=rp(t);
-bl=r8(u+16);
-cl=r8(u+8);
-if(Xk>bl-cl){
-dl=grow_amortized_2b6(u,Xk);
-if(!dl)goto L116;
-el=r8(u+16);
-fl=r8(u+8);}
-else{
-el=bl;
-fl=cl;}
-gl=fl+Xk;
-hl=rp(u)+(i64)fl;
-if((u64)hl-(u64)al<Xk)copy_bits_4f4(al,hl,Xk);
-else memmove(hl,al,Xk);
-w8(u+8,gl);
-w8(u+16,el);}
-w8(u+32,Zk);
-if(Xk!=0)w8(t+8,0);
-il=add_following_166(u,o,Vi,gj);
-if(!(il&1)){
-jl=gj+Ui;
-if(jl>=Ti)goto L92;
-Ui=jl;
-goto L93;}}
-L116:goto L117;
-L92:kl=q[9];
-if(q[8]&1){
-ll=end_segment_f08(J,s,r,t,u);
-if(ll!=0)goto L117;}
-ml=Ti+Qi;
-if(ml>=e)goto L118;
-Qi=ml;
-Ri=kl;
-goto L91;
-L117:if(r8(u+16)!=0)port_rattle_dealloc(rp(u));
-if(r8(t+16)!=0)port_rattle_dealloc(rp(t));
-nl=rp(s+1544);
-ol=rp(s+1584);
-pl=r8(s+1600);
-ql=rp(s+1608);
-rl=r8(s+1624);
-sl=rp(s+1632);
-tl=r8(s+1648);
-ul=r8(s+1560);
-memcpy(k,s,1544);
+Mk=Jk;
+Nk=Kk;}
+Ok=Nk+Fk;
+Pk=rp(t)+(i64)Nk;
+if((u64)Pk-(u64)Ik<Fk)copy_bits_4f4(Ik,Pk,Fk);
+else memmove(Pk,Ik,Fk);
+w8(t+8,Ok);
+w8(t+16,Mk);}
+w8(t+32,Hk);
+if(Fk!=0)w8(s+8,0);
+Qk=add_following_166(t,n,Li,Wi);
+if(!(Qk&1)){
+Rk=Wi+Ki;
+if(Rk>=Ji)goto L90;
+Ki=Rk;
+goto L91;}}
+L112:goto L113;
+L90:Sk=p[9];
+if(p[8]&1){
+Tk=end_segment_f08(I,r,q,s,t);
+if(Tk!=0)goto L113;}
+Uk=Ji+Gi;
+if(Uk>=e)goto L114;
+Gi=Uk;
+Hi=Sk;
+goto L89;
+L113:if(r8(t+16)!=0)port_rattle_dealloc(rp(t));
+if(r8(s+16)!=0)port_rattle_dealloc(rp(s));
+Vk=rp(r+1544);
+Wk=rp(r+1584);
+Xk=r8(r+1600);
+Yk=rp(r+1608);
+Zk=r8(r+1624);
+al=rp(r+1632);
+bl=r8(r+1648);
+cl=r8(r+1560);
+memcpy(k,r,1544);
 drop_1dd(k);
-if(ul!=0)port_rattle_dealloc(nl);
-if(pl!=0)port_rattle_dealloc(ol);
-if(rl!=0)port_rattle_dealloc(ql);
-if(tl!=0)port_rattle_dealloc(sl);
-if(r8(r+24)==0)goto L119;
-goto L120;}
-L118:vl=end_segment_f08(J,s,r,t,u);
-if(!(vl&1)){
-El=rp(u);
-Fl=r8(u+8);
-Gl=r8(u+16);
-Hl=r8(u+32);
-Il=r8(r+56);
-Jl=r8(r+64);
-Kl=r8(r+72);
-if(r8(t+16)!=0)port_rattle_dealloc(rp(t));
-Ll=rp(s+1544);
-Ml=rp(s+1584);
-Nl=r8(s+1600);
-Ol=rp(s+1608);
-Pl=r8(s+1624);
-Ql=rp(s+1632);
-Rl=r8(s+1648);
-Sl=r8(s+1560);
-memcpy(j,s,1544);
+if(cl!=0)port_rattle_dealloc(Vk);
+if(Xk!=0)port_rattle_dealloc(Wk);
+if(Zk!=0)port_rattle_dealloc(Yk);
+if(bl!=0)port_rattle_dealloc(al);
+if(r8(q+24)==0)goto L115;
+goto L116;}
+L114:dl=end_segment_f08(I,r,q,s,t);
+if(!(dl&1)){
+ml=rp(t);
+nl=r8(t+8);
+ol=r8(t+16);
+pl=r8(t+32);
+ql=r8(q+56);
+rl=r8(q+64);
+sl=r8(q+72);
+if(r8(s+16)!=0)port_rattle_dealloc(rp(s));
+tl=rp(r+1544);
+ul=rp(r+1584);
+vl=r8(r+1600);
+wl=rp(r+1608);
+xl=r8(r+1624);
+yl=rp(r+1632);
+zl=r8(r+1648);
+Al=r8(r+1560);
+memcpy(j,r,1544);
 drop_1dd(j);
-if(Sl!=0)port_rattle_dealloc(Ll);
-if(Nl!=0)port_rattle_dealloc(Ml);
-if(Pl!=0)port_rattle_dealloc(Ol);
-if(Rl!=0)port_rattle_dealloc(Ql);
-if(r8(r+24)!=0)port_rattle_dealloc(rp(r+8));
-if(g<Hl){
-Tl=6;
-Ul=Hl;}
+if(Al!=0)port_rattle_dealloc(tl);
+if(vl!=0)port_rattle_dealloc(ul);
+if(xl!=0)port_rattle_dealloc(wl);
+if(zl!=0)port_rattle_dealloc(yl);
+if(r8(q+24)!=0)port_rattle_dealloc(rp(q+8));
+if(g<pl){
+Bl=6;
+Cl=pl;}
 else{
-if(g<Fl){
-Tl=6;
-Ul=Fl;}
+if(g<nl){
+Bl=6;
+Cl=nl;}
 else{
-if((u64)f-(u64)El<Fl)copy_bits_4f4(El,f,Fl);
-else memmove(f,El,Fl);
-w8(h,Il);
-w8(h+8,Jl);
-w8(h+16,Kl);
-Tl=0;
-Ul=Fl;}}
-if(Gl==0){
-Ni=Ul;
-Oi=Tl;
-goto L90;}
-port_rattle_dealloc(El);
-Ni=Ul;
-Oi=Tl;
-goto L90;}
-if(r8(u+16)!=0)port_rattle_dealloc(rp(u));
+if((u64)f-(u64)ml<nl)copy_bits_4f4(ml,f,nl);
+else memmove(f,ml,nl);
+w8(h,ql);
+w8(h+8,rl);
+w8(h+16,sl);
+Bl=0;
+Cl=nl;}}
+if(ol==0){
+Di=Cl;
+Ei=Bl;
+goto L88;}
+port_rattle_dealloc(ml);
+Di=Cl;
+Ei=Bl;
+goto L88;}
 if(r8(t+16)!=0)port_rattle_dealloc(rp(t));
-wl=rp(s+1544);
-xl=rp(s+1584);
-yl=r8(s+1600);
-zl=rp(s+1608);
-Al=r8(s+1624);
-Bl=rp(s+1632);
-Cl=r8(s+1648);
-Dl=r8(s+1560);
-memcpy(i,s,1544);
+if(r8(s+16)!=0)port_rattle_dealloc(rp(s));
+el=rp(r+1544);
+fl=rp(r+1584);
+gl=r8(r+1600);
+hl=rp(r+1608);
+il=r8(r+1624);
+jl=rp(r+1632);
+kl=r8(r+1648);
+ll=r8(r+1560);
+memcpy(i,r,1544);
 drop_1dd(i);
-if(Dl!=0)port_rattle_dealloc(wl);
-if(yl!=0)port_rattle_dealloc(xl);
-if(Al!=0)port_rattle_dealloc(zl);
-if(Cl!=0)port_rattle_dealloc(Bl);
-if(r8(r+24)==0)goto L119;
-L120:port_rattle_dealloc(rp(r+8));
-L119:Ni=0;
-Oi=5;}
-L90:dg=Ni;
-eg=Oi;}
-x8(a,dg);
+if(ll!=0)port_rattle_dealloc(el);
+if(gl!=0)port_rattle_dealloc(fl);
+if(il!=0)port_rattle_dealloc(hl);
+if(kl!=0)port_rattle_dealloc(jl);
+if(r8(q+24)==0)goto L115;
+L116:port_rattle_dealloc(rp(q+8));
+L115:Di=0;
+Ei=5;}
+L88:Tf=Di;
+Uf=Ei;}
+x8(a,Tf);
 x4(a+8,0);
-x4(a+12,eg);
+x4(a+12,Uf);
 return;
 }
 
@@ -116379,823 +116220,849 @@ L6:return w;
 /* sym_filter::words::Words::end_within */
 static void end_within_682(u8* a,u8* b,u8* c,u8* d,u8* e)
 {
-A16 u8 f[12],g[12],h[12];
-u128 i;
-u8 *j,*o,*x,*y,*z,*W,*ea,*fa,*sa,*ta,*Ba,*Ca;
-u64 k,n,p,q,r,s,u,v,w,A,G,J,K,L,T,U,X,Y,Z,ba,ca,da,ha,ia,ma,na,pa,qa,ra,ua,va,wa,ya,za,Aa;
-u8 l,m,t,B,C,D,E,F,H,I,M,N,O,P,R,S,V,aa,ga,ja,ka,oa,xa;
-s_8_8 Q,la;
-i=r16(b+32);
-j=rp(b+8);
-k=r8(b+16);
-l=b[48];
-m=b[49];
-if(!((k<2)|(l!=0))){
-if(*j==95){
-if(((u8)(j[1]-82)&247)==0){
-n=k;
-o=j;
-p=0;
+A16 u8 f[12];
+u128 g;
+u8 *h,*m,*v,*w,*x,*G,*ia,*qa,*ra,*Aa,*Ba,*Ja,*Ka;
+u64 i,l,n,o,p,q,s,t,u,y,A,C,D,E,H,I,L,M,N,O,Q,R,S,U,V,W,X,Y,aa,ba,ca,da,ja,ka,la,na,oa,pa,ua,va,xa,ya,za,Ca,Da,Ea,Ga,Ha,Ia;
+u8 j,k,r,z,B,F,J,K,P,T,Z,ea,ma,wa,Fa;
+s_8_8 fa,ga,ha,sa,ta;
+g=r16(b+32);
+h=rp(b+8);
+i=r8(b+16);
+j=b[48];
+k=b[49];
+if(!((i<2)|(j!=0))){
+if(*h==95){
+if(((u8)(h[1]-82)&247)==0){
+l=i;
+m=h;
+n=0;
 goto L1;}}}
-q=mark_behind_724(j,k,l,m);
-if(q==0){
-n=k;
-o=j;
-p=0;}
+o=mark_behind_724(h,i,j,k);
+if(o==0){
+l=i;
+m=h;
+n=0;}
 else{
-r=r8(e+16);
-s=r8(e+8);
-if(q>r-s){
-t=grow_amortized_2b6(e,q);
-if(!t){
+p=r8(e+16);
+q=r8(e+8);
+if(o>p-q){
+r=grow_amortized_2b6(e,o);
+if(!r){
 *a=1;
 z32(a+16);
 goto L2;}
-u=r8(e+16);
-v=r8(e+8);}
+s=r8(e+16);
+t=r8(e+8);}
 else{
-u=r;
-v=s;}
-w=v+q;
-x=rp(e);
+s=p;
+t=q;}
+u=t+o;
+v=rp(e);
 z16(e+8);
-y=x+(i64)v;
-if((u64)y-(u64)j<q)copy_bits_4f4(j,y,q);
-else memmove(y,j,q);
-wp(e,x);
-w8(e+8,w);
-w8(e+16,u);
-n=r8(b+16);
-o=rp(b+8);
-p=q;}
-L1:z=o+(i64)p;
-A=n-p;
-if(A-65537>=0xffffffffffff0001u){
-B=A==2;
-C=*z;
-D=C==95;
-if(B){
-if(!D)goto L3;
-E=z[1];
-switch(E){
-case 90:F=E;
-G=0;
+w=v+(i64)t;
+if((u64)w-(u64)h<o)copy_bits_4f4(h,w,o);
+else memmove(w,h,o);
+wp(e,v);
+w8(e+8,u);
+w8(e+16,s);
+l=r8(b+16);
+m=rp(b+8);
+n=o;}
+L1:x=m+(i64)n;
+y=l-n;
+if(y-65537>=0xffffffffffff0001u){
+z=*x==95;
+if(y==2){
+if(!z)goto L3;
+switch(x[1]){
+case 90:A=0;
 goto L4;
 case 82:break;
 default:goto L3;
 }}
 else{
-if(!D)goto L3;
-H=z[1];
-switch(H){
-case 90:F=H;
-G=0;
+if(!z)goto L3;
+switch(x[1]){
+case 90:A=0;
 goto L4;
 case 82:break;
-case 95:switch(z[2]){
-case 90:F=95;
-G=0x100000000u;
+case 95:switch(x[2]){
+case 90:A=0x100000000u;
 goto L4;
-case 82:F=95;
-G=0x100000001u;
+case 82:A=0x100000001u;
 goto L4;
 default:goto L3;
 }
 break;
 default:goto L3;
 }}
-F=82;
-G=1;
-L4:I=G;
-J=G>>32;
-K=A;
-L5:if(K!=0){
-L=K-1;
-M=*(z+L);
-if(!((M!=46)&((i8)M>-1))){
-K=L;
+A=1;
+L4:B=A;
+C=A>>32;
+D=y;
+L5:if(D!=0){
+E=D-1;
+F=*(x+E);
+if(!((F!=46)&((i8)F>-1))){
+D=E;
 goto L5;}}
-if(K!=A){
-if(K-65537<0xffffffffffff0001u)S=C;
-else{
-if(K==2){
-if(!D){
-S=C;
-goto L6;}
-switch(F){
-case 90:T=0;
-goto L7;
-case 82:break;
-default:S=95;
-goto L6;
-}}
-else{
-if(!D){
-S=C;
-goto L6;}
-switch(F){
-case 90:T=0;
-goto L7;
-case 82:break;
-case 95:switch(z[2]){
-case 90:T=0x100000000u;
-goto L7;
-case 82:T=0x100000001u;
-goto L7;
-default:S=95;
-goto L6;
-}
-break;
-default:NEVER;
-}}
-T=1;
-L7:U=T>>32;
-z12(g);
-append_dd4(g,c,d,T,z+(i64)U,K-U,e);
-V=*g==0;
-if(!(V||g[4]!=4))goto L8;
-if(V){
-W=z+(i64)K;
-X=A-K;
-Y=r8(e+16);
-Z=r8(e+8);
-if(X>Y-Z){
-aa=grow_amortized_2b6(e,X);
-if(!aa)goto L8;
-ba=r8(e+16);
-ca=r8(e+8);}
-else{
-ba=Y;
-ca=Z;}
-da=ca+X;
-ea=rp(e);
-z16(e+8);
-fa=ea+(i64)ca;
-if((u64)fa-(u64)W<X)copy_bits_4f4(W,fa,X);
-else memmove(fa,W,X);
-wp(e,ea);
-w8(e+8,da);
-w8(e+16,ba);
-goto L9;}
-S=*z;}
-L6:ga=S==95;
-if(B){
-if(!ga)goto L10;
-switch(z[1]){
-case 90:ha=0;
-goto L11;
-case 82:break;
-default:goto L10;
-}}
-else{
-if(!ga)goto L10;
-switch(z[1]){
-case 90:ha=0;
-goto L11;
-case 82:break;
-case 95:switch(z[2]){
-case 90:ha=0x100000000u;
-goto L11;
-case 82:ha=0x100000001u;
-goto L11;
-default:goto L10;
-}
-break;
-default:goto L10;
-}}
-ha=1;
-L11:ia=ha>>32;
+if(D==y){
+G=x+(i64)C;
+H=y-C;
+I=r8(e+8);
 z12(f);
-append_dd4(f,c,d,ha,z+(i64)ia,A-ia,e);
-ja=*f==0;
-ka=f[4]==4;
-if(ja||ka){
-P=!ja&&ka;
-goto L12;}
-L10:la=append_parts_98e(c,d,z,A,e);
-if(la.f0!=0)goto L8;
-R=la.f1;
-goto L13;}
-z12(h);
-append_dd4(h,c,d,I,z+(i64)J,A-J,e);
-N=*h==0;
-O=h[4]==4;
-if(!(N||O)){
-Q=append_parts_98e(c,d,z,A,e);
-if(Q.f0!=0)goto L8;
-R=Q.f1;
-goto L13;}
-P=!N&&O;
-L12:if(P)goto L8;
-R=!P;
-L13:if(!(R&1)){
-ma=r8(e+16);
-na=r8(e+8);
-if(A>ma-na){
-oa=grow_amortized_2b6(e,A);
-if(!oa)goto L8;
-pa=r8(e+16);
-qa=r8(e+8);}
+if(H>=21){
+if(G[2]==78){
+J=G[3];
+if((u8)(J-49)>=9){
+N=3;
+O=3;
+P=J;
+goto L6;}
+K=J;
+L=3;
+M=3;
+L7:Q=M+9;
+R=M;
+S=0;
+L8:T=*(G+R)-48;
+if(T<10){
+U=S*10+T;
+V=R+1;
+if(V-M<9){
+R=V;
+S=U;
+goto L8;}
+if(Q<H){
+if((u8)(*(G+Q)-48)<10){
+N=M;
+O=L;
+P=K;
+goto L6;}
+W=U;
+X=Q;}
 else{
-pa=ma;
-qa=na;}
-ra=qa+A;
-sa=rp(e);
+W=U;
+X=Q;}}
+else{
+W=S;
+X=R;}
+Y=X+W;
+if(Y+17>=H){
+if(Y>=H)goto L9;
+if(*(G+Y)!=69)goto L9;
+aa=Y+1;
+if(H==aa){
+if(M==3)goto L9;
+ba=M;
+ca=H;
+goto L10;}
+if(M==3||(H-aa<2||*(G+(i64)aa)!=46))goto L9;
+ba=M;
+ca=aa;
+goto L10;}
+Z=*(G+Y);
+if((u8)(Z-49)<9){
+K=Z;
+L=M;
+M=Y;
+goto L7;}
+N=Y;
+O=M;
+P=Z;
+L6:if(!((N<H)&(P==69)))goto L9;
+da=N+1;
+if(H==da){
+if(O==3)goto L9;
+ba=O;
+ca=H;}
+else{
+if(O==3||(H-da<2||*(G+(i64)da)!=46))goto L9;
+ba=O;
+ca=da;}
+L10:append_named_4f1(f,c,d,B,G,H,ba,ca,e);
+goto L11;}}
+L9:append_5ae(f,c,d,B,G,H,e);
+L11:if(*f==0){
+ea=rewrite_or_remove_fa2(c+8,d+1544,B,G,H,I,e);
+if(ea&1)goto L12;
+goto L13;}
+if(f[4]==4)goto L12;
+fa=append_parts_98e(c,d,x,y,e);
+if(fa.f0!=0)goto L12;
+ga=fa;}
+else{
+ha=append_text_dab(c,d,x,D,e);
+if(ha.f0!=0)goto L12;
+if(ha.f1&1){
+ia=x+(i64)D;
+ja=y-D;
+ka=r8(e+16);
+la=r8(e+8);
+if(ja>ka-la){
+ma=grow_amortized_2b6(e,ja);
+if(!ma)goto L12;
+na=r8(e+16);
+oa=r8(e+8);}
+else{
+na=ka;
+oa=la;}
+pa=oa+ja;
+qa=rp(e);
 z16(e+8);
-ta=sa+(i64)qa;
-if((u64)ta-(u64)z<A)copy_bits_4f4(z,ta,A);
-else memmove(ta,z,A);
-wp(e,sa);
-w8(e+8,ra);
-w8(e+16,pa);
+ra=qa+(i64)oa;
+if((u64)ra-(u64)ia<ja)copy_bits_4f4(ia,ra,ja);
+else memmove(ra,ia,ja);
+wp(e,qa);
+w8(e+8,pa);
+w8(e+16,na);
+goto L13;}
+sa=append_text_dab(c,d,x,y,e);
+if(sa.f0!=0)goto L12;
+if(sa.f1&1)goto L13;
+ta=append_parts_98e(c,d,x,y,e);
+if(ta.f0!=0)goto L12;
+ga=ta;}
+if(!(ga.f1&1)){
+ua=r8(e+16);
+va=r8(e+8);
+if(y>ua-va){
+wa=grow_amortized_2b6(e,y);
+if(!wa)goto L12;
+xa=r8(e+16);
+ya=r8(e+8);}
+else{
+xa=ua;
+ya=va;}
+za=ya+y;
+Aa=rp(e);
+z16(e+8);
+Ba=Aa+(i64)ya;
+if((u64)Ba-(u64)x<y)copy_bits_4f4(x,Ba,y);
+else memmove(Ba,x,y);
+wp(e,Aa);
+w8(e+8,za);
+w8(e+16,xa);
 w8(b+56,uadd64(r8(b+56),1));
 w8(b+72,uadd64(r8(b+72),1));
-ua=A;
+Ca=y;
 goto L14;}
-L9:w8(b+56,uadd64(r8(b+56),1));
+L13:w8(b+56,uadd64(r8(b+56),1));
 w8(b+64,uadd64(r8(b+64),1));
-ua=0;
+Ca=0;
 goto L14;
-L8:*a=1;
+L12:*a=1;
 z32(a+16);
 goto L2;}
-L3:va=r8(e+16);
-wa=r8(e+8);
-if(A>va-wa){
-xa=grow_amortized_2b6(e,A);
-if(!xa){
+L3:Da=r8(e+16);
+Ea=r8(e+8);
+if(y>Da-Ea){
+Fa=grow_amortized_2b6(e,y);
+if(!Fa){
 *a=1;
 z32(a+16);
 goto L2;}
-ya=r8(e+16);
-za=r8(e+8);}
+Ga=r8(e+16);
+Ha=r8(e+8);}
 else{
-ya=va;
-za=wa;}
-Aa=za+A;
-Ba=rp(e);
+Ga=Da;
+Ha=Ea;}
+Ia=Ha+y;
+Ja=rp(e);
 z16(e+8);
-Ca=Ba+(i64)za;
-if((u64)Ca-(u64)z<A)copy_bits_4f4(z,Ca,A);
-else memmove(Ca,z,A);
-wp(e,Ba);
-w8(e+8,Aa);
-w8(e+16,ya);
-ua=0;
+Ka=Ja+(i64)Ha;
+if((u64)Ka-(u64)x<y)copy_bits_4f4(x,Ka,y);
+else memmove(Ka,x,y);
+wp(e,Ja);
+w8(e+8,Ia);
+w8(e+16,Ga);
+Ca=0;
 L14:if(r8(b+16)!=0)w8(b+16,0);
 z18(b+32);
 *a=0;
-x16(a+16,i);
-x8(a+32,ua);
+x16(a+16,g);
+x8(a+32,Ca);
 x8(a+40,0);
 L2:return;
 }
 
-/* sym_short::rewriting::RewritingDemangler::append */
-static void append_dd4(u8* a,u8* b,u8* c,u8 d,u8* e,u64 f,u8* g)
+/* sym_filter::tries::append_text */
+static s_8_8 append_text_dab(u8* a,u8* b,u8* c,u64 d,u8* e)
 {
-A16 u8 h[24],i[12];
-u64 j,m,n,o,p,r,s,t,v,w,x,y,z,B,C,D,E,F,J,K,L,M,P,Q,R,T,aa;
-u8 k,l,q,u,A,H,I,V,W,Z;
-u8 *G,*N,*S,*U;
-v64 O;
-u32 X,Y;
-j=r8(g+8);
-z12(i);
-if(f>=21){
-if(e[2]==78){
-k=e[3];
-if((u8)(k-49)>=9){
-o=3;
-p=3;
-q=k;
+A16 u8 f[12];
+u8 g,h,i,k,p,q,v,z,F,K;
+u64 j,l,n,o,r,s,t,u,w,x,y,A,B,C,D,E,G,H,I,J;
+u8 *m;
+s_8_8 L,M;
+if(d-65537<0xffffffffffff0001u){
+g=0;
+h=0;}
+else{
+i=*c==95;
+if(d==2){
+if(!i){
+g=0;
+h=0;
 goto L1;}
-l=k;
-m=3;
-n=3;
-L2:r=n+9;
-s=n;
-t=0;
-L3:u=*(e+s)-48;
-if(u<10){
-v=t*10+u;
-w=s+1;
-if(w-n<9){
-s=w;
-t=v;
+switch(c[1]){
+case 90:j=0;
+goto L2;
+case 82:break;
+default:g=0;
+h=0;
+goto L1;
+}}
+else{
+if(!i){
+g=0;
+h=0;
+goto L1;}
+switch(c[1]){
+case 90:j=0;
+goto L2;
+case 82:break;
+case 95:switch(c[2]){
+case 90:j=0x100000000u;
+goto L2;
+case 82:j=0x100000001u;
+goto L2;
+default:g=0;
+h=0;
+goto L1;
+}
+break;
+default:g=0;
+h=0;
+goto L1;
+}}
+j=1;
+L2:k=j;
+l=j>>32;
+m=c+(i64)l;
+n=d-l;
+o=r8(e+8);
+z12(f);
+if(n>=21){
+if(m[2]==78){
+p=m[3];
+if((u8)(p-49)>=9){
+t=3;
+u=3;
+v=p;
 goto L3;}
-if(r<f){
-if((u8)(*(e+r)-48)<10){
-o=n;
-p=m;
-q=l;
-goto L1;}
-x=v;
-y=r;}
-else{
-x=v;
-y=r;}}
-else{
-x=t;
-y=s;}
-z=y+x;
-if(z+17>=f){
-if(z>=f)goto L4;
-if(*(e+z)!=69)goto L4;
-B=z+1;
-if(f==B){
-if(n==3)goto L4;
-C=n;
-D=f;
+q=p;
+r=3;
+s=3;
+L4:w=s+9;
+x=s;
+y=0;
+L5:z=*(m+x)-48;
+if(z<10){
+A=y*10+z;
+B=x+1;
+if(B-s<9){
+x=B;
+y=A;
 goto L5;}
-if(n==3||(f-B<2||*(e+(i64)B)!=46))goto L4;
-C=n;
-D=B;
-goto L5;}
-A=*(e+z);
-if((u8)(A-49)<9){
-l=A;
-m=n;
-n=z;
-goto L2;}
-o=z;
-p=n;
-q=A;
-L1:if(!((o<f)&(q==69)))goto L4;
-E=o+1;
-if(f==E){
-if(p==3)goto L4;
-C=p;
-D=f;}
+if(w<n){
+if((u8)(*(m+w)-48)<10){
+t=s;
+u=r;
+v=q;
+goto L3;}
+C=A;
+D=w;}
 else{
-if(p==3||(f-E<2||*(e+(i64)E)!=46))goto L4;
-C=p;
-D=E;}
-L5:append_named_4f1(i,b,c,d,e,f,C,D,g);
-goto L6;}}
-L4:append_5ae(i,b,c,d,e,f,g);
-L6:if(*i==0){
-F=r8(g+8)-j;
-if(F>4){
-G=rp(g)+(i64)j;
-H=F>66;
-I=F>18;
-J=F-19;
-K=F-67;
-L=0;
-L7:if(H){
-M=umin64(K,L);
-N=G+(i64)M;
-O=v64_and(v64_eq(v64_at(N+2),v64_splat(100)),v64_eq(v64_at(N+3),v64_splat(58)));
-P=(((((u64)v16_top(O.p[1])<<16)|v16_top(O.p[0]))|((u64)v16_top(O.p[2])<<32))|((u64)v16_top(O.p[3])<<48))>>(L-M);
-Q=P==0?M+64:cttz(P,64)+L;}
+C=A;
+D=w;}}
 else{
-if(I){
-R=umin64(J,L);
-S=G+(i64)R;
-T=(u64)(v16_eq(v16_at(S+2),splat(100))&v16_eq(v16_at(S+3),splat(58)))>>(L-R);
-Q=T==0?R+16:cttz(T,64)+L;}
-else Q=L;}
-if(F-Q>=5){
-U=G+(i64)Q;
-if(*U==115){
-if(U[1]==116){
-if(U[2]==100){
-if(U[3]==58){
-if(U[4]==58){
-if(Q!=0){
-V=U[-1];
-if(V==58)goto L8;
-if(*((u8*)t_39e2+V)==49)goto L8;}
-if(d!=0){
-W=0;
-X=0;
-Y=0;
-goto L9;}
-if(b[9]&1){
-z24(h);
-path_of_ea7(h,e,f);
-if(*h&1){
-W=0;
-X=0;
-Y=0;
-goto L9;}}
-Z=rewrite_8ff(b+8,c+1544,j,g);
-if(!(Z&1)){
-W=0;
-X=0;
-Y=0;
-goto L9;}
-if(r8(g+8)<=j){
-W=1;
-X=4;
-Y=0;
-goto L9;}
-w8(g+8,j);
-W=1;
-X=4;
-Y=0;
-goto L9;}}}}}}
-L8:aa=Q+1;
-if(F-aa>4){
-L=aa;
+C=y;
+D=x;}
+E=D+C;
+if(E+17>=n){
+if(E>=n)goto L6;
+if(*(m+E)!=69)goto L6;
+G=E+1;
+if(n==G){
+if(s==3)goto L6;
+H=s;
+I=n;
 goto L7;}
-W=0;
-X=0;
-Y=0;}
+if(s==3||(n-G<2||*(m+(i64)G)!=46))goto L6;
+H=s;
+I=G;
+goto L7;}
+F=*(m+E);
+if((u8)(F-49)<9){
+q=F;
+r=s;
+s=E;
+goto L4;}
+t=E;
+u=s;
+v=F;
+L3:if(!((t<n)&(v==69)))goto L6;
+J=t+1;
+if(n==J){
+if(u==3)goto L6;
+H=u;
+I=n;}
 else{
-W=0;
-X=0;
-Y=0;}}
+if(u==3||(n-J<2||*(m+(i64)J)!=46))goto L6;
+H=u;
+I=J;}
+L7:append_named_4f1(f,a,b,k,m,n,H,I,e);
+goto L8;}}
+L6:append_5ae(f,a,b,k,m,n,e);
+L8:if(*f==0){
+K=rewrite_or_remove_fa2(a+8,b+1544,k,m,n,o,e);
+if(!(K&1)){
+g=1;
+h=0;
+goto L1;}}
 else{
-W=1;
-X=i[4];
-Y=r4(i+8);}
-L9:*a=W;
-x4(a+4,X);
-x4(a+8,Y);
-return;
+if(f[4]!=4){
+g=0;
+h=0;
+goto L1;}}
+g=0;
+h=1;}
+L1:L=(s_8_8){0};L.f0=h;
+M=L;M.f1=g;
+return M;
 }
 
 /* sym_filter::tries::append_parts */
 static s_8_8 append_parts_98e(u8* a,u8* b,u8* c,u64 d,u8* e)
 {
-A16 u8 f[12];
-u8 *g,*o,*H,*O,*P,*Q,*Z,*aa,*fa;
-u64 h,k,l,n,p,r,s,v,w,x,y,z,A,B,D,E,G,I,J,L,M,N,R,S,U,W,X,Y,ba,ca,ga,ha,ja;
-u8 i,j,m,q,C,F,K,T,V,da,ea,ia;
-v16 t;
-u16 u;
-s_8_8 ka,la;
-g=c;
-h=d;
-L1:if(h==0){
-i=0;
-j=0;}
+u8 *f,*m,*A,*I,*J,*K,*T,*U,*Z;
+u64 g,j,l,n,o,p,s,t,u,v,w,x,B,C,D,F,G,H,L,M,N,O,Q,R,S,V,W,aa,ba,da;
+u8 h,i,k,z,E,P,X,Y,ca;
+v16 q;
+u16 r;
+s_8_8 y,ea,fa;
+f=c;
+g=d;
+L1:if(g==0){
+h=0;
+i=0;}
 else{
-if((i8)*g>=0){
-g=g+1;
-h=h-1;
+if((i8)*f>=0){
+f=f+1;
+g=g-1;
 goto L1;}
-k=r8(e+8);
-l=k;
-m=0;
-n=0;
-L2:o=c+(i64)n;
-p=d-n;
-q=*o;
-if(*((u8*)t_e4d8+q)<50){
-r=0;
+j=r8(e+8);
+k=0;
+l=0;
+L2:m=c+(i64)l;
+n=d-l;
+if(*((u8*)t_e4d8+*m)<50){
+o=0;
 goto L3;}
-s=0;
-L4:if(p-s>15){
-t=v16_at(o+s);
-u=cttz(v16_ne(t,splat(36))&(v16_ne(t,splat(46))&(v16_ne(t,splat(95))&(v16_ult(v16_add(t,splat(198)),splat(246))&v16_ult(v16_add(v16_or(t,splat(32)),splat(133)),splat(230))))),16);
-v=s+u;
-if(u>=16){
-s=v;
+p=0;
+L4:if(n-p>15){
+q=v16_at(m+p);
+r=cttz(v16_ne(q,splat(36))&(v16_ne(q,splat(46))&(v16_ne(q,splat(95))&(v16_ult(v16_add(q,splat(198)),splat(246))&v16_ult(v16_add(v16_or(q,splat(32)),splat(133)),splat(230))))),16);
+s=p+r;
+if(r>=16){
+p=s;
 goto L4;}
-w=v;}
-else w=s;
-if(w>=p){
-r=w;
+t=s;}
+else t=p;
+if(t>=n){
+o=t;
 goto L3;}
-x=w;
-L5:if(*((u8*)t_e4d8+*(o+x))<50)r=x;
+u=t;
+L5:if(*((u8*)t_e4d8+*(m+u))<50)o=u;
 else{
-y=x+1;
-if(y!=p){
-x=y;
+v=u+1;
+if(v!=n){
+u=v;
 goto L5;}
-r=p;}
-L3:z=r;
-L6:if(z==0)A=l;
-else{
-B=z-1;
-if(*(o+B)==46){
-z=B;
-goto L6;}
-if(z-65537<0xffffffffffff0001u)A=l;
-else{
-C=q==95;
-if(z==2){
-if(!C){
-A=l;
-goto L7;}
-switch(o[1]){
-case 90:D=0;
-goto L8;
-case 82:break;
-default:A=l;
-goto L7;
-}}
-else{
-if(!C){
-A=l;
-goto L7;}
-switch(o[1]){
-case 90:D=0;
-goto L8;
-case 82:break;
-case 95:switch(o[2]){
-case 90:D=0x100000000u;
-goto L8;
-case 82:D=0x100000001u;
-goto L8;
-default:A=l;
-goto L7;
-}
-break;
-default:A=l;
-goto L7;
-}}
-D=1;
-L8:E=D>>32;
-z12(f);
-append_dd4(f,a,b,D,o+(i64)E,z-E,e);
-F=*f==0;
-if(!(F||f[4]!=4)){
-i=0;
-j=1;
-goto L9;}
-G=r8(e+8);
-if(F){
-H=o+(i64)z;
-I=r-z;
-J=r8(e+16);
-if(I>J-G){
-K=grow_amortized_2b6(e,I);
-if(!K){
-i=0;
-j=1;
-goto L9;}
-L=r8(e+16);
-M=r8(e+8);}
-else{
-L=J;
-M=G;}
-N=M+I;
-O=rp(e);
-z16(e+8);
-P=O+(i64)M;
-if((u64)P-(u64)H<I){
-copy_bits_4f4(H,P,I);
-Q=O;
-R=N;
-S=L;
-T=1;
-goto L10;}
-memmove(P,H,I);
-Q=O;
-R=N;
-S=L;
-T=1;
-goto L10;}
-A=G;}}
-L7:U=r8(e+16);
-if(r>U-A){
-V=grow_amortized_2b6(e,r);
-if(!V){
-i=0;
-j=1;
-goto L9;}
-W=r8(e+16);
-X=r8(e+8);}
-else{
-W=U;
-X=A;}
-Y=X+r;
-Z=rp(e);
-z16(e+8);
-aa=Z+(i64)X;
-if((u64)aa-(u64)o<r){
-copy_bits_4f4(o,aa,r);
-Q=Z;
-R=Y;
-S=W;
-T=0;}
-else{
-memmove(aa,o,r);
-Q=Z;
-R=Y;
-S=W;
-T=0;}
-L10:wp(e,Q);
-w8(e+8,R);
-w8(e+16,S);
-if(r==p){
-ba=R;
-ca=p;}
-else{
-da=*(o+r);
-if(S==R){
-ea=grow_amortized_2b6(e,1);
-if(!ea){
-i=0;
-j=1;
-goto L9;}
-fa=rp(e);
-ga=r8(e+8);}
-else{
-fa=Q;
-ga=R;}
-*(fa+ga)=da;
-ha=ga+1;
-w8(e+8,ha);
-ba=ha;
-ca=r+1;}
-ia=m|T;
-ja=ca+n;
-if(ja<d){
-l=ba;
-m=ia;
-n=ja;
-goto L2;}
-if(ia){
+o=n;}
+L3:w=o;
+L6:if(w!=0){
+x=w-1;
+if(*(m+x)==46){
+w=x;
+goto L6;}}
+y=append_text_dab(a,b,m,w,e);
+if(y.f0==0){
+z=y.f1&1;
+if(z){
+A=m+(i64)w;
+B=o-w;
+C=r8(e+16);
+D=r8(e+8);
+if(B>C-D){
+E=grow_amortized_2b6(e,B);
+if(!E){
+h=0;
 i=1;
-j=0;}
+goto L7;}
+F=r8(e+16);
+G=r8(e+8);}
 else{
-if(ba>k){
-w8(e+8,k);
-i=0;
-j=0;}
+F=C;
+G=D;}
+H=G+B;
+I=rp(e);
+z16(e+8);
+J=I+(i64)G;
+if((u64)J-(u64)A<B){
+copy_bits_4f4(A,J,B);
+K=I;
+L=H;
+M=F;}
 else{
-i=0;
-j=0;}}}
-L9:ka=(s_8_8){0};ka.f0=j;
-la=ka;la.f1=i;
-return la;
+memmove(J,A,B);
+K=I;
+L=H;
+M=F;}}
+else{
+N=r8(e+16);
+O=r8(e+8);
+if(o>N-O){
+P=grow_amortized_2b6(e,o);
+if(!P){
+h=0;
+i=1;
+goto L7;}
+Q=r8(e+16);
+R=r8(e+8);}
+else{
+Q=N;
+R=O;}
+S=R+o;
+T=rp(e);
+z16(e+8);
+U=T+(i64)R;
+if((u64)U-(u64)m<o){
+copy_bits_4f4(m,U,o);
+K=T;
+L=S;
+M=Q;}
+else{
+memmove(U,m,o);
+K=T;
+L=S;
+M=Q;}}
+wp(e,K);
+w8(e+8,L);
+w8(e+16,M);
+if(o==n){
+V=L;
+W=n;}
+else{
+X=*(m+o);
+if(M==L){
+Y=grow_amortized_2b6(e,1);
+if(!Y){
+h=0;
+i=1;
+goto L7;}
+Z=rp(e);
+aa=r8(e+8);}
+else{
+Z=K;
+aa=L;}
+*(Z+aa)=X;
+ba=aa+1;
+w8(e+8,ba);
+V=ba;
+W=o+1;}
+ca=k|z;
+da=W+l;
+if(da<d){
+k=ca;
+l=da;
+goto L2;}
+if(ca){
+h=1;
+i=0;}
+else{
+if(V>j){
+w8(e+8,j);
+h=0;
+i=0;}
+else{
+h=0;
+i=0;}}}
+else{
+h=0;
+i=1;}}
+L7:ea=(s_8_8){0};ea.f0=i;
+fa=ea;fa.f1=h;
+return fa;
+}
+
+/* sym_filter::words::push_text */
+static s_8_8 push_text_d5a(u8* a,u8* b,u8* c,u64 d,u8 e,u32 f,u8* g)
+{
+A16 u8 h[12];
+u8 *i,*P,*Q;
+u64 j,k,n,o,p,q,s,t,u,w,x,y,z,A,C,D,E,F,J,K,M,N,O;
+u8 l,m,r,v,B,G,H,I,L;
+s_8_8 R,S;
+i=c+(i64)f;
+j=d-f;
+k=r8(g+8);
+z12(h);
+if(j>=21){
+if(i[2]==78){
+l=i[3];
+if((u8)(l-49)>=9){
+p=3;
+q=3;
+r=l;
+goto L1;}
+m=l;
+n=3;
+o=3;
+L2:s=o+9;
+t=o;
+u=0;
+L3:v=*(i+t)-48;
+if(v<10){
+w=u*10+v;
+x=t+1;
+if(x-o<9){
+t=x;
+u=w;
+goto L3;}
+if(s<j){
+if((u8)(*(i+s)-48)<10){
+p=o;
+q=n;
+r=m;
+goto L1;}
+y=w;
+z=s;}
+else{
+y=w;
+z=s;}}
+else{
+y=u;
+z=t;}
+A=z+y;
+if(A+17>=j){
+if(A>=j)goto L4;
+if(*(i+A)!=69)goto L4;
+C=A+1;
+if(j==C){
+if(o==3)goto L4;
+D=o;
+E=j;
+goto L5;}
+if(o==3||(j-C<2||*(i+(i64)C)!=46))goto L4;
+D=o;
+E=C;
+goto L5;}
+B=*(i+A);
+if((u8)(B-49)<9){
+m=B;
+n=o;
+o=A;
+goto L2;}
+p=A;
+q=o;
+r=B;
+L1:if(!((p<j)&(r==69)))goto L4;
+F=p+1;
+if(j==F){
+if(q==3)goto L4;
+D=q;
+E=j;}
+else{
+if(q==3||(j-F<2||*(i+(i64)F)!=46))goto L4;
+D=q;
+E=F;}
+L5:append_named_4f1(h,a,b,e,i,j,D,E,g);
+goto L6;}}
+L4:append_5ae(h,a,b,e,i,j,g);
+L6:if(*h==0){
+G=rewrite_or_remove_fa2(a+8,b+1544,e,i,j,k,g);
+H=G^1;
+I=G;}
+else{
+if(h[4]==4){
+H=0;
+I=1;}
+else{
+J=r8(g+16);
+K=r8(g+8);
+if(d>J-K){
+L=grow_amortized_2b6(g,d);
+if(!L){
+H=0;
+I=1;
+goto L7;}
+M=r8(g+16);
+N=r8(g+8);}
+else{
+M=J;
+N=K;}
+O=N+d;
+P=rp(g);
+z16(g+8);
+Q=P+(i64)N;
+if((u64)Q-(u64)c<d)copy_bits_4f4(c,Q,d);
+else memmove(Q,c,d);
+wp(g,P);
+w8(g+8,O);
+w8(g+16,M);
+H=0;
+I=0;}}
+L7:R=(s_8_8){0};R.f0=I;
+S=R;S.f1=H;
+return S;
 }
 
 /* sym_calls::counted::end_segment */
 static u8 end_segment_b7a(u8* a,u8* b,u8* c,u8* d,u8* e)
 {
-A16 u8 f[12],g[48];
-u128 h,i,U,ea;
-u8 *j,*v,*w,*x,*E,*F,*K,*R,*S,*ca,*da;
-u64 k,m,n,o,p,q,s,t,u,y,z,B,C,D,H,I,J,L,M,O,P,Q,T,V,W,X,Z,aa,ba;
-u8 l,r,A,G,N,Y;
-z48(g);
+A16 u8 f[48];
+u128 g,h,K,U;
+u8 *i,*n,*u,*v,*A,*H,*I,*S,*T;
+u64 j,l,o,p,r,s,t,x,y,z,B,C,E,F,G,J,L,M,N,P,Q,R;
+u8 k,q,w,D,O;
+s_8_8 m;
+z48(f);
 if(*c!=2){
-i=r16(c+32);
-j=rp(c+8);
-k=r8(c+16);
-if(k-65537>=0xffffffffffff0001u){
-l=*j==95;
-if(k==2){
-if(!l)goto L1;
-switch(j[1]){
-case 90:m=0;
+h=r16(c+32);
+i=rp(c+8);
+j=r8(c+16);
+if(j-65537>=0xffffffffffff0001u){
+k=*i==95;
+if(j==2){
+if(!k)goto L1;
+switch(i[1]){
+case 90:l=0;
 goto L2;
 case 82:break;
 default:goto L1;
 }}
 else{
-if(!l)goto L1;
-switch(j[1]){
-case 90:m=0;
+if(!k)goto L1;
+switch(i[1]){
+case 90:l=0;
 goto L2;
 case 82:break;
-case 95:switch(j[2]){
-case 90:m=0x100000000u;
+case 95:switch(i[2]){
+case 90:l=0x100000000u;
 goto L2;
-case 82:m=0x100000001u;
+case 82:l=0x100000001u;
 goto L2;
 default:goto L1;
 }
 break;
 default:goto L1;
 }}
-m=1;
-L2:n=m>>32;
-z12(f);
-append_dd4(f,a,b,m,j+(i64)n,k-n,d);
-if(*f!=0){
-if(f[4]!=4){
-p=r8(d+16);
-q=r8(d+8);
-if(k>p-q){
-r=grow_amortized_2b6(d,k);
-if(!r)goto L3;
-s=r8(d+16);
-t=r8(d+8);}
-else{
-s=p;
-t=q;}
-u=t+k;
-v=rp(d);
-z16(d+8);
-w=v+(i64)t;
-if((u64)w-(u64)j<k)copy_bits_4f4(j,w,k);
-else memmove(w,j,k);
-wp(d,v);
-w8(d+8,u);
-w8(d+16,s);
-o=16;
+l=1;
+L2:m=push_text_d5a(a,b,i,j,l,l>>32,d);
+if(m.f0!=0)goto L3;
+w8(c+56,uadd64(r8(c+56),1));
+n=c+56+(i64)(u64)((m.f1&1)?8:16);
+w8(n,uadd64(r8(n),1));
 goto L4;}
-L3:goto L5;}
-o=8;
-L4:w8(c+56,uadd64(r8(c+56),1));
-x=c+56+(i64)o;
-w8(x,uadd64(r8(x),1));
-goto L6;}
-L1:y=r8(d+16);
-z=r8(d+8);
-if(k>y-z){
-A=grow_amortized_2b6(d,k);
-if(!A)goto L5;
-B=r8(d+16);
-C=r8(d+8);}
+L1:o=r8(d+16);
+p=r8(d+8);
+if(j>o-p){
+q=grow_amortized_2b6(d,j);
+if(!q)goto L3;
+r=r8(d+16);
+s=r8(d+8);}
 else{
-B=y;
-C=z;}
-D=C+k;
-E=rp(d);
+r=o;
+s=p;}
+t=s+j;
+u=rp(d);
 z16(d+8);
-F=E+(i64)C;
-if((u64)F-(u64)j<k)copy_bits_4f4(j,F,k);
-else memmove(F,j,k);
-wp(d,E);
-w8(d+8,D);
-w8(d+16,B);
-L6:if(r8(c+16)!=0)w8(c+16,0);
+v=u+(i64)s;
+if((u64)v-(u64)i<j)copy_bits_4f4(i,v,j);
+else memmove(v,i,j);
+wp(d,u);
+w8(d+8,t);
+w8(d+16,r);
+L4:if(r8(c+16)!=0)w8(c+16,0);
 z18(c+32);
-h=i;
-goto L7;}
-end_within_682(g,c,a,b,d);
-if(*g==0){
-h=r16(g+16);
-goto L7;}
-L5:G=1;
-goto L8;
-L7:c[50]=0;
-H=r8(d+8);
-I=r8(e+32);
-if(I>(H^18446744073709551615u))G=1;
+g=h;
+goto L5;}
+end_within_682(f,c,a,b,d);
+if(*f==0){
+g=r16(f+16);
+goto L5;}
+L3:w=1;
+goto L6;
+L5:c[50]=0;
+x=r8(d+8);
+y=r8(e+32);
+if(y>(x^18446744073709551615u))w=1;
 else{
-J=I+H;
-if(J<=r8(e+24)){
-K=rp(d);
-L=r8(e+16);
-M=r8(e+8);
-if(H>L-M){
-N=grow_amortized_2b6(e,H);
-if(!N){
-G=1;
-goto L8;}
-O=r8(e+16);
-P=r8(e+8);}
+z=y+x;
+if(z<=r8(e+24)){
+A=rp(d);
+B=r8(e+16);
+C=r8(e+8);
+if(x>B-C){
+D=grow_amortized_2b6(e,x);
+if(!D){
+w=1;
+goto L6;}
+E=r8(e+16);
+F=r8(e+8);}
 else{
-O=L;
-P=M;}
-Q=P+H;
-R=rp(e);
+E=B;
+F=C;}
+G=F+x;
+H=rp(e);
 z16(e+8);
-S=R+(i64)P;
-if((u64)S-(u64)K<H)copy_bits_4f4(K,S,H);
-else memmove(S,K,H);
-wp(e,R);
-w8(e+8,Q);
-w8(e+16,O);}
-w8(e+32,J);
+I=H+(i64)F;
+if((u64)I-(u64)A<x)copy_bits_4f4(A,I,x);
+else memmove(I,A,x);
+wp(e,H);
+w8(e+8,G);
+w8(e+16,E);}
+w8(e+32,z);
 if(r8(d+8)!=0)w8(d+8,0);
-if(h==0)G=0;
+if(g==0)w=0;
 else{
-T=r8(e+32);
-U=0;
-L9:if(T==18446744073709551615u)G=1;
+J=r8(e+32);
+K=0;
+L7:if(J==18446744073709551615u)w=1;
 else{
-V=T+1;
-if(V<=r8(e+24)){
-W=r8(e+16);
-X=r8(e+8);
-if(W==X){
-Y=grow_amortized_2b6(e,1);
-if(!Y){
-G=1;
-goto L8;}
-Z=r8(e+16);
-aa=r8(e+8);}
+L=J+1;
+if(L<=r8(e+24)){
+M=r8(e+16);
+N=r8(e+8);
+if(M==N){
+O=grow_amortized_2b6(e,1);
+if(!O){
+w=1;
+goto L6;}
+P=r8(e+16);
+Q=r8(e+8);}
 else{
-Z=W;
-aa=X;}
-ba=aa+1;
-ca=rp(e);
+P=M;
+Q=N;}
+R=Q+1;
+S=rp(e);
 z16(e+8);
-da=ca+(i64)aa;
-if((u64)da==(u64)(u8*)t_cdb4)copy_bits_4f4((u8*)t_cdb4,da,1);
-else *da=46;
-wp(e,ca);
-w8(e+8,ba);
-w8(e+16,Z);}
-w8(e+32,V);
-ea=U+1;
-if(ea<h){
-T=V;
-U=ea;
-goto L9;}
-G=0;}}}
-L8:return G;
+T=S+(i64)Q;
+if((u64)T==(u64)(u8*)t_cdb4)copy_bits_4f4((u8*)t_cdb4,T,1);
+else *T=46;
+wp(e,S);
+w8(e+8,R);
+w8(e+16,P);}
+w8(e+32,L);
+U=K+1;
+if(U<g){
+J=L;
+K=U;
+goto L7;}
+w=0;}}}
+L6:return w;
 }
 
 /* sym_filter::words::Words::end_within */
@@ -117857,752 +117724,640 @@ L8:return G;
 /* sym_filter::words::Words::end_within */
 static void end_within_b20(u8* a,u8* b,u8* c,u8* d,u8* e)
 {
-A16 u8 f[12],g[12],h[12];
-u128 i;
-u8 *j,*o,*x,*y,*z,*W,*ea,*fa,*sa,*ta,*Ba,*Ca;
-u64 k,n,p,q,r,s,u,v,w,A,G,J,K,L,T,U,X,Y,Z,ba,ca,da,ha,ia,ma,na,pa,qa,ra,ua,va,wa,ya,za,Aa;
-u8 l,m,t,B,C,D,E,F,H,I,M,N,O,P,R,S,V,aa,ga,ja,ka,oa,xa;
-s_8_8 Q,la;
-i=r16(b+32);
-j=rp(b+8);
-k=r8(b+16);
-l=b[48];
-m=b[49];
-if(!((k<2)|(l!=0))){
-if(*j==95){
-if(((u8)(j[1]-82)&247)==0){
-n=k;
-o=j;
-p=0;
+A16 u8 f[12];
+u128 g;
+u8 *h,*m,*v,*w,*x,*G,*P,*X,*Y,*ia,*ja,*ra,*sa;
+u64 i,l,n,o,p,q,s,t,u,y,A,C,D,E,H,I,Q,R,S,U,V,W,ca,da,fa,ga,ha,ka,la,ma,oa,pa,qa;
+u8 j,k,r,z,B,F,J,K,L,N,T,ba,ea,na;
+s_8_8 M,O,Z,aa;
+g=r16(b+32);
+h=rp(b+8);
+i=r8(b+16);
+j=b[48];
+k=b[49];
+if(!((i<2)|(j!=0))){
+if(*h==95){
+if(((u8)(h[1]-82)&247)==0){
+l=i;
+m=h;
+n=0;
 goto L1;}}}
-q=mark_behind_724(j,k,l,m);
-if(q==0){
-n=k;
-o=j;
-p=0;}
+o=mark_behind_724(h,i,j,k);
+if(o==0){
+l=i;
+m=h;
+n=0;}
 else{
-r=r8(e+16);
-s=r8(e+8);
-if(q>r-s){
-t=grow_amortized_2b6(e,q);
-if(!t){
+p=r8(e+16);
+q=r8(e+8);
+if(o>p-q){
+r=grow_amortized_2b6(e,o);
+if(!r){
 *a=1;
 z32(a+16);
 goto L2;}
-u=r8(e+16);
-v=r8(e+8);}
+s=r8(e+16);
+t=r8(e+8);}
 else{
-u=r;
-v=s;}
-w=v+q;
-x=rp(e);
+s=p;
+t=q;}
+u=t+o;
+v=rp(e);
 z16(e+8);
-y=x+(i64)v;
-if((u64)y-(u64)j<q)copy_bits_4f4(j,y,q);
-else memmove(y,j,q);
-wp(e,x);
-w8(e+8,w);
-w8(e+16,u);
-n=r8(b+16);
-o=rp(b+8);
-p=q;}
-L1:z=o+(i64)p;
-A=n-p;
-if(A-65537>=0xffffffffffff0001u){
-B=A==2;
-C=*z;
-D=C==95;
-if(B){
-if(!D)goto L3;
-E=z[1];
-switch(E){
-case 90:F=E;
-G=0;
+w=v+(i64)t;
+if((u64)w-(u64)h<o)copy_bits_4f4(h,w,o);
+else memmove(w,h,o);
+wp(e,v);
+w8(e+8,u);
+w8(e+16,s);
+l=r8(b+16);
+m=rp(b+8);
+n=o;}
+L1:x=m+(i64)n;
+y=l-n;
+if(y-65537>=0xffffffffffff0001u){
+z=*x==95;
+if(y==2){
+if(!z)goto L3;
+switch(x[1]){
+case 90:A=0;
 goto L4;
 case 82:break;
 default:goto L3;
 }}
 else{
-if(!D)goto L3;
-H=z[1];
-switch(H){
-case 90:F=H;
-G=0;
+if(!z)goto L3;
+switch(x[1]){
+case 90:A=0;
 goto L4;
 case 82:break;
-case 95:switch(z[2]){
-case 90:F=95;
-G=0x100000000u;
+case 95:switch(x[2]){
+case 90:A=0x100000000u;
 goto L4;
-case 82:F=95;
-G=0x100000001u;
+case 82:A=0x100000001u;
 goto L4;
 default:goto L3;
 }
 break;
 default:goto L3;
 }}
-F=82;
-G=1;
-L4:I=G;
-J=G>>32;
-K=A;
-L5:if(K!=0){
-L=K-1;
-M=*(z+L);
-if(!((M!=46)&((i8)M>-1))){
-K=L;
+A=1;
+L4:B=A;
+C=A>>32;
+D=y;
+L5:if(D!=0){
+E=D-1;
+F=*(x+E);
+if(!((F!=46)&((i8)F>-1))){
+D=E;
 goto L5;}}
-if(K!=A){
-if(K-65537<0xffffffffffff0001u)S=C;
-else{
-if(K==2){
-if(!D){
-S=C;
-goto L6;}
-switch(F){
-case 90:T=0;
-goto L7;
-case 82:break;
-default:S=95;
-goto L6;
-}}
-else{
-if(!D){
-S=C;
-goto L6;}
-switch(F){
-case 90:T=0;
-goto L7;
-case 82:break;
-case 95:switch(z[2]){
-case 90:T=0x100000000u;
-goto L7;
-case 82:T=0x100000001u;
-goto L7;
-default:S=95;
-goto L6;
-}
-break;
-default:NEVER;
-}}
-T=1;
-L7:U=T>>32;
-z12(g);
-append_a0b_2(g,c,d,T,z+(i64)U,K-U,e);
-V=*g==0;
-if(!(V||g[4]!=4))goto L8;
-if(V){
-W=z+(i64)K;
-X=A-K;
-Y=r8(e+16);
-Z=r8(e+8);
-if(X>Y-Z){
-aa=grow_amortized_2b6(e,X);
-if(!aa)goto L8;
-ba=r8(e+16);
-ca=r8(e+8);}
-else{
-ba=Y;
-ca=Z;}
-da=ca+X;
-ea=rp(e);
-z16(e+8);
-fa=ea+(i64)ca;
-if((u64)fa-(u64)W<X)copy_bits_4f4(W,fa,X);
-else memmove(fa,W,X);
-wp(e,ea);
-w8(e+8,da);
-w8(e+16,ba);
-goto L9;}
-S=*z;}
-L6:ga=S==95;
-if(B){
-if(!ga)goto L10;
-switch(z[1]){
-case 90:ha=0;
-goto L11;
-case 82:break;
-default:goto L10;
-}}
-else{
-if(!ga)goto L10;
-switch(z[1]){
-case 90:ha=0;
-goto L11;
-case 82:break;
-case 95:switch(z[2]){
-case 90:ha=0x100000000u;
-goto L11;
-case 82:ha=0x100000001u;
-goto L11;
-default:goto L10;
-}
-break;
-default:goto L10;
-}}
-ha=1;
-L11:ia=ha>>32;
+if(D==y){
+G=x+(i64)C;
+H=y-C;
 z12(f);
-append_a0b_2(f,c,d,ha,z+(i64)ia,A-ia,e);
-ja=*f==0;
-ka=f[4]==4;
-if(ja||ka){
-P=!ja&&ka;
-goto L12;}
-L10:la=append_parts_3bf(c,d,z,A,e);
-if(la.f0!=0)goto L8;
-R=la.f1;
-goto L13;}
-z12(h);
-append_a0b_2(h,c,d,I,z+(i64)J,A-J,e);
-N=*h==0;
-O=h[4]==4;
-if(!(N||O)){
-Q=append_parts_3bf(c,d,z,A,e);
-if(Q.f0!=0)goto L8;
-R=Q.f1;
-goto L13;}
-P=!N&&O;
-L12:if(P)goto L8;
-R=!P;
-L13:if(!(R&1)){
-ma=r8(e+16);
-na=r8(e+8);
-if(A>ma-na){
-oa=grow_amortized_2b6(e,A);
-if(!oa)goto L8;
-pa=r8(e+16);
-qa=r8(e+8);}
+I=r8(e+8);
+append_5ae(f,c,d,B,G,H,e);
+if(*f!=0){
+if(f[4]==4)goto L6;
+M=append_parts_3bf(c,d,x,y,e);
+if(M.f0!=0)goto L6;
+N=M.f1;
+goto L7;}
+J=rewrite_or_remove_fa2(c+8,d+1544,B,G,H,I,e);
+K=J^1;
+L=J;}
 else{
-pa=ma;
-qa=na;}
-ra=qa+A;
-sa=rp(e);
+O=append_text_bcc(c,d,x,D,e);
+if(O.f0!=0)goto L6;
+if(O.f1&1){
+P=x+(i64)D;
+Q=y-D;
+R=r8(e+16);
+S=r8(e+8);
+if(Q>R-S){
+T=grow_amortized_2b6(e,Q);
+if(!T)goto L6;
+U=r8(e+16);
+V=r8(e+8);}
+else{
+U=R;
+V=S;}
+W=V+Q;
+X=rp(e);
 z16(e+8);
-ta=sa+(i64)qa;
-if((u64)ta-(u64)z<A)copy_bits_4f4(z,ta,A);
-else memmove(ta,z,A);
-wp(e,sa);
-w8(e+8,ra);
-w8(e+16,pa);
+Y=X+(i64)V;
+if((u64)Y-(u64)P<Q)copy_bits_4f4(P,Y,Q);
+else memmove(Y,P,Q);
+wp(e,X);
+w8(e+8,W);
+w8(e+16,U);
+goto L8;}
+Z=append_text_bcc(c,d,x,y,e);
+if(Z.f0!=0)goto L6;
+if(Z.f1&1)goto L8;
+aa=append_parts_3bf(c,d,x,y,e);
+ba=aa.f0;
+K=ba==0?aa.f1:0;
+L=ba;}
+if(L!=0)goto L6;
+N=K;
+L7:if(N&1)goto L8;
+ca=r8(e+16);
+da=r8(e+8);
+if(y>ca-da){
+ea=grow_amortized_2b6(e,y);
+if(!ea)goto L6;
+fa=r8(e+16);
+ga=r8(e+8);}
+else{
+fa=ca;
+ga=da;}
+ha=ga+y;
+ia=rp(e);
+z16(e+8);
+ja=ia+(i64)ga;
+if((u64)ja-(u64)x<y)copy_bits_4f4(x,ja,y);
+else memmove(ja,x,y);
+wp(e,ia);
+w8(e+8,ha);
+w8(e+16,fa);
 w8(b+56,uadd64(r8(b+56),1));
 w8(b+72,uadd64(r8(b+72),1));
-ua=A;
-goto L14;}
-L9:w8(b+56,uadd64(r8(b+56),1));
-w8(b+64,uadd64(r8(b+64),1));
-ua=0;
-goto L14;
-L8:*a=1;
+ka=y;
+goto L9;
+L6:*a=1;
 z32(a+16);
-goto L2;}
-L3:va=r8(e+16);
-wa=r8(e+8);
-if(A>va-wa){
-xa=grow_amortized_2b6(e,A);
-if(!xa){
+goto L2;
+L8:w8(b+56,uadd64(r8(b+56),1));
+w8(b+64,uadd64(r8(b+64),1));
+ka=0;
+goto L9;}
+L3:la=r8(e+16);
+ma=r8(e+8);
+if(y>la-ma){
+na=grow_amortized_2b6(e,y);
+if(!na){
 *a=1;
 z32(a+16);
 goto L2;}
-ya=r8(e+16);
-za=r8(e+8);}
+oa=r8(e+16);
+pa=r8(e+8);}
 else{
-ya=va;
-za=wa;}
-Aa=za+A;
-Ba=rp(e);
+oa=la;
+pa=ma;}
+qa=pa+y;
+ra=rp(e);
 z16(e+8);
-Ca=Ba+(i64)za;
-if((u64)Ca-(u64)z<A)copy_bits_4f4(z,Ca,A);
-else memmove(Ca,z,A);
-wp(e,Ba);
-w8(e+8,Aa);
-w8(e+16,ya);
-ua=0;
-L14:if(r8(b+16)!=0)w8(b+16,0);
+sa=ra+(i64)pa;
+if((u64)sa-(u64)x<y)copy_bits_4f4(x,sa,y);
+else memmove(sa,x,y);
+wp(e,ra);
+w8(e+8,qa);
+w8(e+16,oa);
+ka=0;
+L9:if(r8(b+16)!=0)w8(b+16,0);
 z18(b+32);
 *a=0;
-x16(a+16,i);
-x8(a+32,ua);
+x16(a+16,g);
+x8(a+32,ka);
 x8(a+40,0);
 L2:return;
 }
 
-/* sym_short::rewriting::RewritingDemangler::append */
-static void append_a0b_2(u8* a,u8* b,u8* c,u8 d,u8* e,u64 f,u8* g)
+/* sym_filter::tries::append_text */
+static s_8_8 append_text_bcc(u8* a,u8* b,u8* c,u64 d,u8* e)
 {
-A16 u8 h[24],i[12];
-u64 j,k,o,p,q,r,u,v,w,y,F;
-u8 *l,*s,*x,*z;
-u8 m,n,A,B,E;
-v64 t;
-u32 C,D;
-z12(i);
-j=r8(g+8);
-append_5ae(i,b,c,d,e,f,g);
-if(*i==0){
-k=r8(g+8)-j;
-if(k>4){
-l=rp(g)+(i64)j;
-m=k>66;
-n=k>18;
-o=k-19;
-p=k-67;
-q=0;
-L1:if(m){
-r=umin64(p,q);
-s=l+(i64)r;
-t=v64_and(v64_eq(v64_at(s+2),v64_splat(100)),v64_eq(v64_at(s+3),v64_splat(58)));
-u=(((((u64)v16_top(t.p[1])<<16)|v16_top(t.p[0]))|((u64)v16_top(t.p[2])<<32))|((u64)v16_top(t.p[3])<<48))>>(q-r);
-v=u==0?r+64:cttz(u,64)+q;}
+A16 u8 f[12];
+u8 g,h,i,k,p;
+u64 j,l,n,o;
+u8 *m;
+s_8_8 q,r;
+if(d-65537<0xffffffffffff0001u){
+g=0;
+h=0;}
 else{
-if(n){
-w=umin64(o,q);
-x=l+(i64)w;
-y=(u64)(v16_eq(v16_at(x+2),splat(100))&v16_eq(v16_at(x+3),splat(58)))>>(q-w);
-v=y==0?w+16:cttz(y,64)+q;}
-else v=q;}
-if(k-v>=5){
-z=l+(i64)v;
-if(*z==115){
-if(z[1]==116){
-if(z[2]==100){
-if(z[3]==58){
-if(z[4]==58){
-if(v!=0){
-A=z[-1];
-if(A==58)goto L2;
-if(*((u8*)t_39e2+A)==49)goto L2;}
-if(d!=0){
-B=0;
-C=0;
-D=0;
-goto L3;}
-if(b[9]&1){
-z24(h);
-path_of_ea7(h,e,f);
-if(*h&1){
-B=0;
-C=0;
-D=0;
-goto L3;}}
-E=rewrite_8ff(b+8,c+1544,j,g);
-if(!(E&1)){
-B=0;
-C=0;
-D=0;
-goto L3;}
-if(r8(g+8)<=j){
-B=1;
-C=4;
-D=0;
-goto L3;}
-w8(g+8,j);
-B=1;
-C=4;
-D=0;
-goto L3;}}}}}}
-L2:F=v+1;
-if(k-F>4){
-q=F;
+i=*c==95;
+if(d==2){
+if(!i){
+g=0;
+h=0;
 goto L1;}
-B=0;
-C=0;
-D=0;}
+switch(c[1]){
+case 90:j=0;
+goto L2;
+case 82:break;
+default:g=0;
+h=0;
+goto L1;
+}}
 else{
-B=0;
-C=0;
-D=0;}}
+if(!i){
+g=0;
+h=0;
+goto L1;}
+switch(c[1]){
+case 90:j=0;
+goto L2;
+case 82:break;
+case 95:switch(c[2]){
+case 90:j=0x100000000u;
+goto L2;
+case 82:j=0x100000001u;
+goto L2;
+default:g=0;
+h=0;
+goto L1;
+}
+break;
+default:g=0;
+h=0;
+goto L1;
+}}
+j=1;
+L2:k=j;
+l=j>>32;
+m=c+(i64)l;
+n=d-l;
+z12(f);
+o=r8(e+8);
+append_5ae(f,a,b,k,m,n,e);
+if(*f==0){
+p=rewrite_or_remove_fa2(a+8,b+1544,k,m,n,o,e);
+if(!(p&1)){
+g=1;
+h=0;
+goto L1;}}
 else{
-B=1;
-C=i[4];
-D=r4(i+8);}
-L3:*a=B;
-x4(a+4,C);
-x4(a+8,D);
-return;
+if(f[4]!=4){
+g=0;
+h=0;
+goto L1;}}
+g=0;
+h=1;}
+L1:q=(s_8_8){0};q.f0=h;
+r=q;r.f1=g;
+return r;
 }
 
 /* sym_filter::tries::append_parts */
 static s_8_8 append_parts_3bf(u8* a,u8* b,u8* c,u64 d,u8* e)
 {
-A16 u8 f[12];
-u8 *g,*o,*H,*O,*P,*Q,*Z,*aa,*fa;
-u64 h,k,l,n,p,r,s,v,w,x,y,z,A,B,D,E,G,I,J,L,M,N,R,S,U,W,X,Y,ba,ca,ga,ha,ja;
-u8 i,j,m,q,C,F,K,T,V,da,ea,ia;
-v16 t;
-u16 u;
-s_8_8 ka,la;
-g=c;
-h=d;
-L1:if(h==0){
-i=0;
-j=0;}
+u8 *f,*m,*A,*I,*J,*K,*T,*U,*Z;
+u64 g,j,l,n,o,p,s,t,u,v,w,x,B,C,D,F,G,H,L,M,N,O,Q,R,S,V,W,aa,ba,da;
+u8 h,i,k,z,E,P,X,Y,ca;
+v16 q;
+u16 r;
+s_8_8 y,ea,fa;
+f=c;
+g=d;
+L1:if(g==0){
+h=0;
+i=0;}
 else{
-if((i8)*g>=0){
-g=g+1;
-h=h-1;
+if((i8)*f>=0){
+f=f+1;
+g=g-1;
 goto L1;}
-k=r8(e+8);
-l=k;
-m=0;
-n=0;
-L2:o=c+(i64)n;
-p=d-n;
-q=*o;
-if(*((u8*)t_e4d8+q)<50){
-r=0;
+j=r8(e+8);
+k=0;
+l=0;
+L2:m=c+(i64)l;
+n=d-l;
+if(*((u8*)t_e4d8+*m)<50){
+o=0;
 goto L3;}
-s=0;
-L4:if(p-s>15){
-t=v16_at(o+s);
-u=cttz(v16_ne(t,splat(36))&(v16_ne(t,splat(46))&(v16_ne(t,splat(95))&(v16_ult(v16_add(t,splat(198)),splat(246))&v16_ult(v16_add(v16_or(t,splat(32)),splat(133)),splat(230))))),16);
-v=s+u;
-if(u>=16){
-s=v;
+p=0;
+L4:if(n-p>15){
+q=v16_at(m+p);
+r=cttz(v16_ne(q,splat(36))&(v16_ne(q,splat(46))&(v16_ne(q,splat(95))&(v16_ult(v16_add(q,splat(198)),splat(246))&v16_ult(v16_add(v16_or(q,splat(32)),splat(133)),splat(230))))),16);
+s=p+r;
+if(r>=16){
+p=s;
 goto L4;}
-w=v;}
-else w=s;
-if(w>=p){
-r=w;
+t=s;}
+else t=p;
+if(t>=n){
+o=t;
 goto L3;}
-x=w;
-L5:if(*((u8*)t_e4d8+*(o+x))<50)r=x;
+u=t;
+L5:if(*((u8*)t_e4d8+*(m+u))<50)o=u;
 else{
-y=x+1;
-if(y!=p){
-x=y;
+v=u+1;
+if(v!=n){
+u=v;
 goto L5;}
-r=p;}
-L3:z=r;
-L6:if(z==0)A=l;
-else{
-B=z-1;
-if(*(o+B)==46){
-z=B;
-goto L6;}
-if(z-65537<0xffffffffffff0001u)A=l;
-else{
-C=q==95;
-if(z==2){
-if(!C){
-A=l;
-goto L7;}
-switch(o[1]){
-case 90:D=0;
-goto L8;
-case 82:break;
-default:A=l;
-goto L7;
-}}
-else{
-if(!C){
-A=l;
-goto L7;}
-switch(o[1]){
-case 90:D=0;
-goto L8;
-case 82:break;
-case 95:switch(o[2]){
-case 90:D=0x100000000u;
-goto L8;
-case 82:D=0x100000001u;
-goto L8;
-default:A=l;
-goto L7;
-}
-break;
-default:A=l;
-goto L7;
-}}
-D=1;
-L8:E=D>>32;
-z12(f);
-append_a0b_2(f,a,b,D,o+(i64)E,z-E,e);
-F=*f==0;
-if(!(F||f[4]!=4)){
-i=0;
-j=1;
-goto L9;}
-G=r8(e+8);
-if(F){
-H=o+(i64)z;
-I=r-z;
-J=r8(e+16);
-if(I>J-G){
-K=grow_amortized_2b6(e,I);
-if(!K){
-i=0;
-j=1;
-goto L9;}
-L=r8(e+16);
-M=r8(e+8);}
-else{
-L=J;
-M=G;}
-N=M+I;
-O=rp(e);
-z16(e+8);
-P=O+(i64)M;
-if((u64)P-(u64)H<I){
-copy_bits_4f4(H,P,I);
-Q=O;
-R=N;
-S=L;
-T=1;
-goto L10;}
-memmove(P,H,I);
-Q=O;
-R=N;
-S=L;
-T=1;
-goto L10;}
-A=G;}}
-L7:U=r8(e+16);
-if(r>U-A){
-V=grow_amortized_2b6(e,r);
-if(!V){
-i=0;
-j=1;
-goto L9;}
-W=r8(e+16);
-X=r8(e+8);}
-else{
-W=U;
-X=A;}
-Y=X+r;
-Z=rp(e);
-z16(e+8);
-aa=Z+(i64)X;
-if((u64)aa-(u64)o<r){
-copy_bits_4f4(o,aa,r);
-Q=Z;
-R=Y;
-S=W;
-T=0;}
-else{
-memmove(aa,o,r);
-Q=Z;
-R=Y;
-S=W;
-T=0;}
-L10:wp(e,Q);
-w8(e+8,R);
-w8(e+16,S);
-if(r==p){
-ba=R;
-ca=p;}
-else{
-da=*(o+r);
-if(S==R){
-ea=grow_amortized_2b6(e,1);
-if(!ea){
-i=0;
-j=1;
-goto L9;}
-fa=rp(e);
-ga=r8(e+8);}
-else{
-fa=Q;
-ga=R;}
-*(fa+ga)=da;
-ha=ga+1;
-w8(e+8,ha);
-ba=ha;
-ca=r+1;}
-ia=m|T;
-ja=ca+n;
-if(ja<d){
-l=ba;
-m=ia;
-n=ja;
-goto L2;}
-if(ia){
+o=n;}
+L3:w=o;
+L6:if(w!=0){
+x=w-1;
+if(*(m+x)==46){
+w=x;
+goto L6;}}
+y=append_text_bcc(a,b,m,w,e);
+if(y.f0==0){
+z=y.f1&1;
+if(z){
+A=m+(i64)w;
+B=o-w;
+C=r8(e+16);
+D=r8(e+8);
+if(B>C-D){
+E=grow_amortized_2b6(e,B);
+if(!E){
+h=0;
 i=1;
-j=0;}
+goto L7;}
+F=r8(e+16);
+G=r8(e+8);}
 else{
-if(ba>k){
-w8(e+8,k);
-i=0;
-j=0;}
+F=C;
+G=D;}
+H=G+B;
+I=rp(e);
+z16(e+8);
+J=I+(i64)G;
+if((u64)J-(u64)A<B){
+copy_bits_4f4(A,J,B);
+K=I;
+L=H;
+M=F;}
 else{
-i=0;
-j=0;}}}
-L9:ka=(s_8_8){0};ka.f0=j;
-la=ka;la.f1=i;
-return la;
+memmove(J,A,B);
+K=I;
+L=H;
+M=F;}}
+else{
+N=r8(e+16);
+O=r8(e+8);
+if(o>N-O){
+P=grow_amortized_2b6(e,o);
+if(!P){
+h=0;
+i=1;
+goto L7;}
+Q=r8(e+16);
+R=r8(e+8);}
+else{
+Q=N;
+R=O;}
+S=R+o;
+T=rp(e);
+z16(e+8);
+U=T+(i64)R;
+if((u64)U-(u64)m<o){
+copy_bits_4f4(m,U,o);
+K=T;
+L=S;
+M=Q;}
+else{
+memmove(U,m,o);
+K=T;
+L=S;
+M=Q;}}
+wp(e,K);
+w8(e+8,L);
+w8(e+16,M);
+if(o==n){
+V=L;
+W=n;}
+else{
+X=*(m+o);
+if(M==L){
+Y=grow_amortized_2b6(e,1);
+if(!Y){
+h=0;
+i=1;
+goto L7;}
+Z=rp(e);
+aa=r8(e+8);}
+else{
+Z=K;
+aa=L;}
+*(Z+aa)=X;
+ba=aa+1;
+w8(e+8,ba);
+V=ba;
+W=o+1;}
+ca=k|z;
+da=W+l;
+if(da<d){
+k=ca;
+l=da;
+goto L2;}
+if(ca){
+h=1;
+i=0;}
+else{
+if(V>j){
+w8(e+8,j);
+h=0;
+i=0;}
+else{
+h=0;
+i=0;}}}
+else{
+h=0;
+i=1;}}
+L7:ea=(s_8_8){0};ea.f0=i;
+fa=ea;fa.f1=h;
+return fa;
+}
+
+/* sym_filter::words::push_text */
+static s_8_8 push_text_8d8(u8* a,u8* b,u8* c,u64 d,u8 e,u32 f,u8* g)
+{
+A16 u8 h[12];
+u8 *i,*u,*v;
+u64 j,k,o,p,r,s,t;
+u8 l,m,n,q;
+s_8_8 w,x;
+i=c+(i64)f;
+j=d-f;
+z12(h);
+k=r8(g+8);
+append_5ae(h,a,b,e,i,j,g);
+if(*h==0){
+l=rewrite_or_remove_fa2(a+8,b+1544,e,i,j,k,g);
+m=l^1;
+n=l;}
+else{
+if(h[4]==4){
+m=0;
+n=1;}
+else{
+o=r8(g+16);
+p=r8(g+8);
+if(d>o-p){
+q=grow_amortized_2b6(g,d);
+if(!q){
+m=0;
+n=1;
+goto L1;}
+r=r8(g+16);
+s=r8(g+8);}
+else{
+r=o;
+s=p;}
+t=s+d;
+u=rp(g);
+z16(g+8);
+v=u+(i64)s;
+if((u64)v-(u64)c<d)copy_bits_4f4(c,v,d);
+else memmove(v,c,d);
+wp(g,u);
+w8(g+8,t);
+w8(g+16,r);
+m=0;
+n=0;}}
+L1:w=(s_8_8){0};w.f0=n;
+x=w;x.f1=m;
+return x;
 }
 
 /* sym_calls::counted::end_segment */
 static u8 end_segment_f08(u8* a,u8* b,u8* c,u8* d,u8* e)
 {
-A16 u8 f[12],g[48];
-u128 h,i,U,ea;
-u8 *j,*v,*w,*x,*E,*F,*K,*R,*S,*ca,*da;
-u64 k,m,n,o,p,q,s,t,u,y,z,B,C,D,H,I,J,L,M,O,P,Q,T,V,W,X,Z,aa,ba;
-u8 l,r,A,G,N,Y;
-z48(g);
+A16 u8 f[48];
+u128 g,h,K,U;
+u8 *i,*n,*u,*v,*A,*H,*I,*S,*T;
+u64 j,l,o,p,r,s,t,x,y,z,B,C,E,F,G,J,L,M,N,P,Q,R;
+u8 k,q,w,D,O;
+s_8_8 m;
+z48(f);
 if(*c!=2){
-i=r16(c+32);
-j=rp(c+8);
-k=r8(c+16);
-if(k-65537>=0xffffffffffff0001u){
-l=*j==95;
-if(k==2){
-if(!l)goto L1;
-switch(j[1]){
-case 90:m=0;
+h=r16(c+32);
+i=rp(c+8);
+j=r8(c+16);
+if(j-65537>=0xffffffffffff0001u){
+k=*i==95;
+if(j==2){
+if(!k)goto L1;
+switch(i[1]){
+case 90:l=0;
 goto L2;
 case 82:break;
 default:goto L1;
 }}
 else{
-if(!l)goto L1;
-switch(j[1]){
-case 90:m=0;
+if(!k)goto L1;
+switch(i[1]){
+case 90:l=0;
 goto L2;
 case 82:break;
-case 95:switch(j[2]){
-case 90:m=0x100000000u;
+case 95:switch(i[2]){
+case 90:l=0x100000000u;
 goto L2;
-case 82:m=0x100000001u;
+case 82:l=0x100000001u;
 goto L2;
 default:goto L1;
 }
 break;
 default:goto L1;
 }}
-m=1;
-L2:n=m>>32;
-z12(f);
-append_a0b_2(f,a,b,m,j+(i64)n,k-n,d);
-if(*f!=0){
-if(f[4]!=4){
-p=r8(d+16);
-q=r8(d+8);
-if(k>p-q){
-r=grow_amortized_2b6(d,k);
-if(!r)goto L3;
-s=r8(d+16);
-t=r8(d+8);}
-else{
-s=p;
-t=q;}
-u=t+k;
-v=rp(d);
-z16(d+8);
-w=v+(i64)t;
-if((u64)w-(u64)j<k)copy_bits_4f4(j,w,k);
-else memmove(w,j,k);
-wp(d,v);
-w8(d+8,u);
-w8(d+16,s);
-o=16;
+l=1;
+L2:m=push_text_8d8(a,b,i,j,l,l>>32,d);
+if(m.f0!=0)goto L3;
+w8(c+56,uadd64(r8(c+56),1));
+n=c+56+(i64)(u64)((m.f1&1)?8:16);
+w8(n,uadd64(r8(n),1));
 goto L4;}
-L3:goto L5;}
-o=8;
-L4:w8(c+56,uadd64(r8(c+56),1));
-x=c+56+(i64)o;
-w8(x,uadd64(r8(x),1));
-goto L6;}
-L1:y=r8(d+16);
-z=r8(d+8);
-if(k>y-z){
-A=grow_amortized_2b6(d,k);
-if(!A)goto L5;
-B=r8(d+16);
-C=r8(d+8);}
+L1:o=r8(d+16);
+p=r8(d+8);
+if(j>o-p){
+q=grow_amortized_2b6(d,j);
+if(!q)goto L3;
+r=r8(d+16);
+s=r8(d+8);}
 else{
-B=y;
-C=z;}
-D=C+k;
-E=rp(d);
+r=o;
+s=p;}
+t=s+j;
+u=rp(d);
 z16(d+8);
-F=E+(i64)C;
-if((u64)F-(u64)j<k)copy_bits_4f4(j,F,k);
-else memmove(F,j,k);
-wp(d,E);
-w8(d+8,D);
-w8(d+16,B);
-L6:if(r8(c+16)!=0)w8(c+16,0);
+v=u+(i64)s;
+if((u64)v-(u64)i<j)copy_bits_4f4(i,v,j);
+else memmove(v,i,j);
+wp(d,u);
+w8(d+8,t);
+w8(d+16,r);
+L4:if(r8(c+16)!=0)w8(c+16,0);
 z18(c+32);
-h=i;
-goto L7;}
-end_within_b20(g,c,a,b,d);
-if(*g==0){
-h=r16(g+16);
-goto L7;}
-L5:G=1;
-goto L8;
-L7:c[50]=0;
-H=r8(d+8);
-I=r8(e+32);
-if(I>(H^18446744073709551615u))G=1;
+g=h;
+goto L5;}
+end_within_b20(f,c,a,b,d);
+if(*f==0){
+g=r16(f+16);
+goto L5;}
+L3:w=1;
+goto L6;
+L5:c[50]=0;
+x=r8(d+8);
+y=r8(e+32);
+if(y>(x^18446744073709551615u))w=1;
 else{
-J=I+H;
-if(J<=r8(e+24)){
-K=rp(d);
-L=r8(e+16);
-M=r8(e+8);
-if(H>L-M){
-N=grow_amortized_2b6(e,H);
-if(!N){
-G=1;
-goto L8;}
-O=r8(e+16);
-P=r8(e+8);}
+z=y+x;
+if(z<=r8(e+24)){
+A=rp(d);
+B=r8(e+16);
+C=r8(e+8);
+if(x>B-C){
+D=grow_amortized_2b6(e,x);
+if(!D){
+w=1;
+goto L6;}
+E=r8(e+16);
+F=r8(e+8);}
 else{
-O=L;
-P=M;}
-Q=P+H;
-R=rp(e);
+E=B;
+F=C;}
+G=F+x;
+H=rp(e);
 z16(e+8);
-S=R+(i64)P;
-if((u64)S-(u64)K<H)copy_bits_4f4(K,S,H);
-else memmove(S,K,H);
-wp(e,R);
-w8(e+8,Q);
-w8(e+16,O);}
-w8(e+32,J);
+I=H+(i64)F;
+if((u64)I-(u64)A<x)copy_bits_4f4(A,I,x);
+else memmove(I,A,x);
+wp(e,H);
+w8(e+8,G);
+w8(e+16,E);}
+w8(e+32,z);
 if(r8(d+8)!=0)w8(d+8,0);
-if(h==0)G=0;
+if(g==0)w=0;
 else{
-T=r8(e+32);
-U=0;
-L9:if(T==18446744073709551615u)G=1;
+J=r8(e+32);
+K=0;
+L7:if(J==18446744073709551615u)w=1;
 else{
-V=T+1;
-if(V<=r8(e+24)){
-W=r8(e+16);
-X=r8(e+8);
-if(W==X){
-Y=grow_amortized_2b6(e,1);
-if(!Y){
-G=1;
-goto L8;}
-Z=r8(e+16);
-aa=r8(e+8);}
+L=J+1;
+if(L<=r8(e+24)){
+M=r8(e+16);
+N=r8(e+8);
+if(M==N){
+O=grow_amortized_2b6(e,1);
+if(!O){
+w=1;
+goto L6;}
+P=r8(e+16);
+Q=r8(e+8);}
 else{
-Z=W;
-aa=X;}
-ba=aa+1;
-ca=rp(e);
+P=M;
+Q=N;}
+R=Q+1;
+S=rp(e);
 z16(e+8);
-da=ca+(i64)aa;
-if((u64)da==(u64)(u8*)t_cdb4)copy_bits_4f4((u8*)t_cdb4,da,1);
-else *da=46;
-wp(e,ca);
-w8(e+8,ba);
-w8(e+16,Z);}
-w8(e+32,V);
-ea=U+1;
-if(ea<h){
-T=V;
-U=ea;
-goto L9;}
-G=0;}}}
-L8:return G;
+T=S+(i64)Q;
+if((u64)T==(u64)(u8*)t_cdb4)copy_bits_4f4((u8*)t_cdb4,T,1);
+else *T=46;
+wp(e,S);
+w8(e+8,R);
+w8(e+16,P);}
+w8(e+32,L);
+U=K+1;
+if(U<g){
+J=L;
+K=U;
+goto L7;}
+w=0;}}}
+L6:return w;
 }
 
 /* symbol_parts::languages::LanguagesParser::parse */
@@ -146203,15 +145958,149 @@ x4(a+12,v);
 return;
 }
 
+/* sym_calls::text::symbol_with */
+static void symbol_with_ad4(u8* a,u8* b,u8* c,u8* d,u8 e,u32 f,u8* g,u64 h,u8* i,u64 j)
+{
+A16 u8 k[12];
+u8 l,m,r,v,B,G;
+u64 n,o,p,q,s,t,u,w,x,y,z,A,C,D,E,F,H,I;
+u32 J,K,M;
+u8 *L;
+if(r8(d+8)!=0)w8(d+8,0);
+z12(k);
+if(h>=21){
+if(g[2]==78){
+l=g[3];
+if((u8)(l-49)>=9){
+p=3;
+q=3;
+r=l;
+goto L1;}
+m=l;
+n=3;
+o=3;
+L2:s=o+9;
+t=o;
+u=0;
+L3:v=*(g+t)-48;
+if(v<10){
+w=u*10+v;
+x=t+1;
+if(x-o<9){
+t=x;
+u=w;
+goto L3;}
+if(s<h){
+if((u8)(*(g+s)-48)<10){
+p=o;
+q=n;
+r=m;
+goto L1;}
+y=w;
+z=s;}
+else{
+y=w;
+z=s;}}
+else{
+y=u;
+z=t;}
+A=z+y;
+if(A+17>=h){
+if(A>=h)goto L4;
+if(*(g+A)!=69)goto L4;
+C=A+1;
+if(h==C){
+if(o==3)goto L4;
+D=o;
+E=h;
+goto L5;}
+if(o==3||(h-C<2||*(g+(i64)C)!=46))goto L4;
+D=o;
+E=C;
+goto L5;}
+B=*(g+A);
+if((u8)(B-49)<9){
+m=B;
+n=o;
+o=A;
+goto L2;}
+p=A;
+q=o;
+r=B;
+L1:if(!((p<h)&(r==69)))goto L4;
+F=p+1;
+if(h==F){
+if(q==3)goto L4;
+D=q;
+E=h;}
+else{
+if(q==3||(h-F<2||*(g+(i64)F)!=46))goto L4;
+D=q;
+E=F;}
+L5:append_named_df1(k,b,c,e,g,h,D,E,d);
+goto L6;}}
+L4:append_a0b(k,b,c,e,g,h,d);
+L6:if(*k==0){
+G=rewrite_or_remove_fa2(b+8,c+1544,e,g,h,0,d);
+if(!(G&1)){
+H=r8(d+8);
+if(j<H){
+I=H;
+J=0;
+K=6;
+goto L7;}
+L=rp(d);
+if((u64)i-(u64)L<H){
+copy_bits_4f4(L,i,H);
+I=H;
+J=0;
+K=0;
+goto L7;}
+memmove(i,L,H);
+I=H;
+J=0;
+K=0;
+goto L7;}}
+else{
+M=r4(k+8);
+switch(k[4]){
+case 0:I=0;
+J=uadd32(f,M);
+K=1;
+goto L7;
+case 1:I=0;
+J=uadd32(f,M);
+K=2;
+goto L7;
+case 2:I=0;
+J=uadd32(f,M);
+K=3;
+goto L7;
+case 3:I=0;
+J=0;
+K=4;
+goto L7;
+case 4:break;
+default:NEVER;
+}}
+I=0;
+J=0;
+K=5;
+L7:x8(a,I);
+x4(a+8,J);
+x4(a+12,K);
+return;
+}
+
 /* sym_calls::text::or_type */
 static void or_type_a12(u8* a,u8* b,u8* c,u8* d,u64 e,u8* f,u64 g,u8* h)
 {
-A16 u8 i[1544],j[1544],k[24],l[24],m[12],n[12],o[1656],p[24];
-u64 q,t,x,y,A,E,L,S,W,Y,aa,ba,ca,oa,qa,sa,ta;
-u32 r,s,u,v,H,K,Q,T,da,ea,fa,ia,ja,ka,la;
-u8 *w,*B,*C,*I,*M,*N,*R,*U,*V,*X,*Z,*ma,*na,*pa,*ra;
+A16 u8 i[1544],j[1544],k[12],l[24],m[24],n[12],o[1656],p[24];
+u64 q,t,x,y,A,E,L,P,Q,R,S,U,V,W,Y,Z,aa,ba,ca,ea,fa,ga,ha,qa,ua,wa,ya,za,Aa,La,Na,Pa,Qa;
+u32 r,s,u,v,H,K,ka,oa,ra,Ba,Ca,Da,Ga,Ha,Ia;
+u8 *w,*B,*C,*I,*M,*la,*pa,*sa,*ta,*va,*xa,*Ja,*Ka,*Ma,*Oa;
 s_64_64 z;
-u8 D,F,G,J,O,P,ga,ha,ua;
+u8 D,F,G,J,N,O,T,X,da,ia,ja,ma,na,Ea,Fa,Ra;
 q=q8(h);
 r=q4(h+8);
 s=q4(h+12);
@@ -146325,8 +146214,6 @@ wp(o+1632,(u8*)65536);
 z16(o+1640);
 wp(p,(u8*)65536);
 z16(p+8);
-z24(l);
-z12(m);
 z12(n);
 z=port_rattle_alloc(4,1);
 if((u8)(z.f0&1)){
@@ -146334,146 +146221,227 @@ A=z.f1;
 B=(u8*)A;
 if(A-(u64)(u8*)t_f8a6<4)copy_bits_4f4((u8*)t_f8a6,B,4);
 else x4(B,1230264927);
-wp(k,B);
-w8(k+8,4);
-w8(k+16,4);
+wp(l,B);
+w8(l+8,4);
+w8(l+16,4);
 if(e==0){
 C=B;
 D=0;
 E=4;}
 else{
-F=grow_amortized_2b6(k,e);
+F=grow_amortized_2b6(l,e);
 if(!F){
-if(r8(k+16)==0){
+if(r8(l+16)==0){
 G=4;
 H=0;
 goto L3;}
-I=rp(k);
+I=rp(l);
 J=4;
 K=0;
 goto L4;}
-C=rp(k);
-D=r8(k+16)==0;
-E=r8(k+8);}
+C=rp(l);
+D=r8(l+16)==0;
+E=r8(l+8);}
 L=E+e;
 M=C+(i64)E;
 if((u64)M-(u64)d<e)copy_bits_4f4(d,M,e);
 else memmove(M,d,e);
-wp(l,(u8*)65536);
-z16(l+8);
-append_d61(m,b,o,0,C,L,l);
-if(*m==0){
-N=rp(l);
-append_after_words_c13(n,N,r8(l+8),p);
-O=*n;
-P=n[4];
-Q=r4(n+8);
-if(r8(l+16)!=0)port_rattle_dealloc(N);
-if(!D)port_rattle_dealloc(C);
-if(O!=0){
-fa=Q;
-ga=P;
+wp(m,(u8*)65536);
+z16(m+8);
+z12(k);
+if(L>=21){
+if(C[2]==78){
+N=C[3];
+if((u8)(N-49)>=9){
+R=3;
+S=3;
+T=N;
 goto L5;}
-R=rp(p);
-S=r8(p+8);
-if(g<S)T=6;
+O=N;
+P=3;
+Q=3;
+L6:U=Q+9;
+V=Q;
+W=0;
+L7:X=*(C+V)-48;
+if(X<10){
+Y=W*10+X;
+Z=V+1;
+if(Z-Q<9){
+V=Z;
+W=Y;
+goto L7;}
+if(U<L){
+if((u8)(*(C+U)-48)<10){
+R=Q;
+S=P;
+T=O;
+goto L5;}
+aa=Y;
+ba=U;}
 else{
-if((u64)f-(u64)R<S){
-copy_bits_4f4(R,f,S);
-T=0;}
+aa=Y;
+ba=U;}}
 else{
-memmove(f,R,S);
-T=0;}}
-if(r8(p+16)!=0)port_rattle_dealloc(R);
-U=rp(o+1544);
-V=rp(o+1584);
-W=r8(o+1600);
-X=rp(o+1608);
-Y=r8(o+1624);
-Z=rp(o+1632);
-aa=r8(o+1648);
-ba=r8(o+1560);
+aa=W;
+ba=V;}
+ca=ba+aa;
+if(ca+17>=L){
+if(ca>=L)goto L8;
+if(*(C+ca)!=69)goto L8;
+ea=ca+1;
+if(L==ea){
+if(Q==3)goto L8;
+fa=Q;
+ga=L;
+goto L9;}
+if(Q==3||(L-ea<2||*(C+(i64)ea)!=46))goto L8;
+fa=Q;
+ga=ea;
+goto L9;}
+da=*(C+ca);
+if((u8)(da-49)<9){
+O=da;
+P=Q;
+Q=ca;
+goto L6;}
+R=ca;
+S=Q;
+T=da;
+L5:if(!((R<L)&(T==69)))goto L8;
+ha=R+1;
+if(L==ha){
+if(S==3)goto L8;
+fa=S;
+ga=L;}
+else{
+if(S==3||(L-ha<2||*(C+(i64)ha)!=46))goto L8;
+fa=S;
+ga=ha;}
+L9:append_named_df1(k,b,o,0,C,L,fa,ga,m);
+goto L10;}}
+L8:append_a0b(k,b,o,0,C,L,m);
+L10:if(*k==0){
+ia=rewrite_or_remove_fa2(b+8,o+1544,0,C,L,0,m);
+if(!(ia&1)){
+la=rp(m);
+append_after_words_c13(n,la,r8(m+8),p);
+ma=*n;
+na=n[4];
+oa=r4(n+8);
+if(r8(m+16)!=0)port_rattle_dealloc(la);
+if(!D)port_rattle_dealloc(C);
+if(ma!=0){
+Da=oa;
+Ea=na;
+goto L11;}
+pa=rp(p);
+qa=r8(p+8);
+if(g<qa)ra=6;
+else{
+if((u64)f-(u64)pa<qa){
+copy_bits_4f4(pa,f,qa);
+ra=0;}
+else{
+memmove(f,pa,qa);
+ra=0;}}
+if(r8(p+16)!=0)port_rattle_dealloc(pa);
+sa=rp(o+1544);
+ta=rp(o+1584);
+ua=r8(o+1600);
+va=rp(o+1608);
+wa=r8(o+1624);
+xa=rp(o+1632);
+ya=r8(o+1648);
+za=r8(o+1560);
 memcpy(j,o,1544);
 drop_1dd(j);
-if(ba!=0)port_rattle_dealloc(U);
-if(W!=0)port_rattle_dealloc(V);
-if(Y!=0)port_rattle_dealloc(X);
-if(aa!=0)port_rattle_dealloc(Z);
-ca=S;
-da=0;
-ea=T;
-goto L6;}
-ha=m[4];
-ia=r4(m+8);
-switch(ha){
-case 0:ja=usub32(ia,4);
+if(za!=0)port_rattle_dealloc(sa);
+if(ua!=0)port_rattle_dealloc(ta);
+if(wa!=0)port_rattle_dealloc(va);
+if(ya!=0)port_rattle_dealloc(xa);
+Aa=qa;
+Ba=0;
+Ca=ra;
+goto L12;}
+ja=4;
+ka=0;}
+else{
+Fa=k[4];
+Ga=r4(k+8);
+switch(Fa){
+case 0:ja=0;
+ka=usub32(Ga,4);
 break;
-case 1:ja=usub32(ia,4);
+case 1:ja=1;
+ka=usub32(Ga,4);
 break;
-case 2:ja=usub32(ia,4);
+case 2:ja=2;
+ka=usub32(Ga,4);
 break;
-case 3:case 4:ja=0;
+case 3:case 4:ja=Fa;
+ka=0;
 break;
 default:NEVER;
-}
-if(r8(l+16)!=0)port_rattle_dealloc(rp(l));
+}}
+if(r8(m+16)!=0)port_rattle_dealloc(rp(m));
 if(D){
-G=ha;
-H=ja;
+G=ja;
+H=ka;
 goto L3;}
 I=C;
-J=ha;
-K=ja;
+J=ja;
+K=ka;
 L4:port_rattle_dealloc(I);
 G=J;
 H=K;}
 else{
 G=4;
 H=0;}
-L3:fa=H;
-ga=G;
-L5:switch(ga){
-case 0:ka=fa;
-la=1;
+L3:Da=H;
+Ea=G;
+L11:switch(Ea){
+case 0:Ha=Da;
+Ia=1;
 break;
-case 1:ka=fa;
-la=2;
+case 1:Ha=Da;
+Ia=2;
 break;
-case 2:ka=fa;
-la=3;
+case 2:Ha=Da;
+Ia=3;
 break;
-case 3:ka=0;
-la=4;
+case 3:Ha=0;
+Ia=4;
 break;
-case 4:ka=0;
-la=5;
+case 4:Ha=0;
+Ia=5;
 break;
 default:NEVER;
 }
 if(r8(p+16)!=0)port_rattle_dealloc(rp(p));
-ma=rp(o+1544);
-na=rp(o+1584);
-oa=r8(o+1600);
-pa=rp(o+1608);
-qa=r8(o+1624);
-ra=rp(o+1632);
-sa=r8(o+1648);
-ta=r8(o+1560);
+Ja=rp(o+1544);
+Ka=rp(o+1584);
+La=r8(o+1600);
+Ma=rp(o+1608);
+Na=r8(o+1624);
+Oa=rp(o+1632);
+Pa=r8(o+1648);
+Qa=r8(o+1560);
 memcpy(i,o,1544);
 drop_1dd(i);
-if(ta!=0)port_rattle_dealloc(ma);
-if(oa!=0)port_rattle_dealloc(na);
-if(qa!=0)port_rattle_dealloc(pa);
-if(sa!=0)port_rattle_dealloc(ra);
-ca=0;
-da=ka;
-ea=la;
-L6:t=ca;
-u=da;
-v=ea;}
+if(Qa!=0)port_rattle_dealloc(Ja);
+if(La!=0)port_rattle_dealloc(Ka);
+if(Na!=0)port_rattle_dealloc(Ma);
+if(Pa!=0)port_rattle_dealloc(Oa);
+Aa=0;
+Ba=Ha;
+Ca=Ia;
+L12:t=Aa;
+u=Ba;
+v=Ca;}
 else{
-ua=*w;
-if(ua!=46&&*((u8*)t_e4d8+ua)>48){
+Ra=*w;
+if(Ra!=46&&*((u8*)t_e4d8+Ra)>48){
 w=w+1;
 x=x-1;
 goto L2;}
@@ -146486,15 +146454,78 @@ x4(a+12,v);
 return;
 }
 
+/* sym_calls::text::symbol_with */
+static void symbol_with_e80(u8* a,u8* b,u8* c,u8* d,u8 e,u32 f,u8* g,u64 h,u8* i,u64 j)
+{
+A16 u8 k[12];
+u8 l;
+u64 m,n;
+u32 o,p,r;
+u8 *q;
+if(r8(d+8)!=0)w8(d+8,0);
+z12(k);
+append_a0b(k,b,c,e,g,h,d);
+if(*k==0){
+l=rewrite_or_remove_fa2(b+8,c+1544,e,g,h,0,d);
+if(!(l&1)){
+m=r8(d+8);
+if(j<m){
+n=m;
+o=0;
+p=6;
+goto L1;}
+q=rp(d);
+if((u64)i-(u64)q<m){
+copy_bits_4f4(q,i,m);
+n=m;
+o=0;
+p=0;
+goto L1;}
+memmove(i,q,m);
+n=m;
+o=0;
+p=0;
+goto L1;}}
+else{
+r=r4(k+8);
+switch(k[4]){
+case 0:n=0;
+o=uadd32(f,r);
+p=1;
+goto L1;
+case 1:n=0;
+o=uadd32(f,r);
+p=2;
+goto L1;
+case 2:n=0;
+o=uadd32(f,r);
+p=3;
+goto L1;
+case 3:n=0;
+o=0;
+p=4;
+goto L1;
+case 4:break;
+default:NEVER;
+}}
+n=0;
+o=0;
+p=5;
+L1:x8(a,n);
+x4(a+8,o);
+x4(a+12,p);
+return;
+}
+
 /* sym_calls::text::or_type */
 static void or_type_9d2(u8* a,u8* b,u8* c,u8* d,u64 e,u8* f,u64 g,u8* h)
 {
-A16 u8 i[1544],j[1544],k[24],l[24],m[12],n[12],o[1656],p[24];
-u64 q,t,x,y,A,E,L,S,W,Y,aa,ba,ca,oa,qa,sa,ta;
-u32 r,s,u,v,H,K,Q,T,da,ea,fa,ia,ja,ka,la;
-u8 *w,*B,*C,*I,*M,*N,*R,*U,*V,*X,*Z,*ma,*na,*pa,*ra;
+A16 u8 i[1544],j[1544],k[12],l[24],m[24],n[12],o[1656],p[24];
+u64 q,t,x,y,A,E,L,V,Z,ba,da,ea,fa,qa,sa,ua,va;
+u32 r,s,u,v,H,K,P,T,W,ga,ha,ia,ka,ma,na;
+u8 *w,*B,*C,*I,*M,*Q,*U,*X,*Y,*aa,*ca,*oa,*pa,*ra,*ta;
 s_64_64 z;
-u8 D,F,G,J,O,P,ga,ha,ua;
+u8 D,F,G,J,N,O,R,S,ja,la,wa;
 q=q8(h);
 r=q4(h+8);
 s=q4(h+12);
@@ -146608,8 +146639,6 @@ wp(o+1632,(u8*)65536);
 z16(o+1640);
 wp(p,(u8*)65536);
 z16(p+8);
-z24(l);
-z12(m);
 z12(n);
 z=port_rattle_alloc(4,1);
 if((u8)(z.f0&1)){
@@ -146617,146 +146646,156 @@ A=z.f1;
 B=(u8*)A;
 if(A-(u64)(u8*)t_f8a6<4)copy_bits_4f4((u8*)t_f8a6,B,4);
 else x4(B,1230264927);
-wp(k,B);
-w8(k+8,4);
-w8(k+16,4);
+wp(l,B);
+w8(l+8,4);
+w8(l+16,4);
 if(e==0){
 C=B;
 D=0;
 E=4;}
 else{
-F=grow_amortized_2b6(k,e);
+F=grow_amortized_2b6(l,e);
 if(!F){
-if(r8(k+16)==0){
+if(r8(l+16)==0){
 G=4;
 H=0;
 goto L3;}
-I=rp(k);
+I=rp(l);
 J=4;
 K=0;
 goto L4;}
-C=rp(k);
-D=r8(k+16)==0;
-E=r8(k+8);}
+C=rp(l);
+D=r8(l+16)==0;
+E=r8(l+8);}
 L=E+e;
 M=C+(i64)E;
 if((u64)M-(u64)d<e)copy_bits_4f4(d,M,e);
 else memmove(M,d,e);
-wp(l,(u8*)65536);
-z16(l+8);
-append_018(m,b,o,0,C,L,l);
-if(*m==0){
-N=rp(l);
-append_after_words_c13(n,N,r8(l+8),p);
-O=*n;
-P=n[4];
-Q=r4(n+8);
-if(r8(l+16)!=0)port_rattle_dealloc(N);
+wp(m,(u8*)65536);
+z16(m+8);
+z12(k);
+append_a0b(k,b,o,0,C,L,m);
+if(*k==0){
+N=rewrite_or_remove_fa2(b+8,o+1544,0,C,L,0,m);
+if(!(N&1)){
+Q=rp(m);
+append_after_words_c13(n,Q,r8(m+8),p);
+R=*n;
+S=n[4];
+T=r4(n+8);
+if(r8(m+16)!=0)port_rattle_dealloc(Q);
 if(!D)port_rattle_dealloc(C);
-if(O!=0){
-fa=Q;
-ga=P;
+if(R!=0){
+ia=T;
+ja=S;
 goto L5;}
-R=rp(p);
-S=r8(p+8);
-if(g<S)T=6;
+U=rp(p);
+V=r8(p+8);
+if(g<V)W=6;
 else{
-if((u64)f-(u64)R<S){
-copy_bits_4f4(R,f,S);
-T=0;}
+if((u64)f-(u64)U<V){
+copy_bits_4f4(U,f,V);
+W=0;}
 else{
-memmove(f,R,S);
-T=0;}}
-if(r8(p+16)!=0)port_rattle_dealloc(R);
-U=rp(o+1544);
-V=rp(o+1584);
-W=r8(o+1600);
-X=rp(o+1608);
-Y=r8(o+1624);
-Z=rp(o+1632);
-aa=r8(o+1648);
-ba=r8(o+1560);
+memmove(f,U,V);
+W=0;}}
+if(r8(p+16)!=0)port_rattle_dealloc(U);
+X=rp(o+1544);
+Y=rp(o+1584);
+Z=r8(o+1600);
+aa=rp(o+1608);
+ba=r8(o+1624);
+ca=rp(o+1632);
+da=r8(o+1648);
+ea=r8(o+1560);
 memcpy(j,o,1544);
 drop_1dd(j);
-if(ba!=0)port_rattle_dealloc(U);
-if(W!=0)port_rattle_dealloc(V);
-if(Y!=0)port_rattle_dealloc(X);
-if(aa!=0)port_rattle_dealloc(Z);
-ca=S;
-da=0;
-ea=T;
+if(ea!=0)port_rattle_dealloc(X);
+if(Z!=0)port_rattle_dealloc(Y);
+if(ba!=0)port_rattle_dealloc(aa);
+if(da!=0)port_rattle_dealloc(ca);
+fa=V;
+ga=0;
+ha=W;
 goto L6;}
-ha=m[4];
-ia=r4(m+8);
-switch(ha){
-case 0:ja=usub32(ia,4);
+O=4;
+P=0;}
+else{
+ka=r4(k+8);
+la=k[4];
+switch(la){
+case 0:O=0;
+P=usub32(ka,4);
 break;
-case 1:ja=usub32(ia,4);
+case 1:O=1;
+P=usub32(ka,4);
 break;
-case 2:ja=usub32(ia,4);
+case 2:O=2;
+P=usub32(ka,4);
 break;
-case 3:case 4:ja=0;
+case 3:case 4:O=la;
+P=0;
 break;
 default:NEVER;
-}
-if(r8(l+16)!=0)port_rattle_dealloc(rp(l));
+}}
+if(r8(m+16)!=0)port_rattle_dealloc(rp(m));
 if(D){
-G=ha;
-H=ja;
+G=O;
+H=P;
 goto L3;}
 I=C;
-J=ha;
-K=ja;
+J=O;
+K=P;
 L4:port_rattle_dealloc(I);
 G=J;
 H=K;}
 else{
 G=4;
 H=0;}
-L3:fa=H;
-ga=G;
-L5:switch(ga){
-case 0:ka=fa;
-la=1;
+L3:ia=H;
+ja=G;
+L5:switch(ja){
+case 0:ma=ia;
+na=1;
 break;
-case 1:ka=fa;
-la=2;
+case 1:ma=ia;
+na=2;
 break;
-case 2:ka=fa;
-la=3;
+case 2:ma=ia;
+na=3;
 break;
-case 3:ka=0;
-la=4;
+case 3:ma=0;
+na=4;
 break;
-case 4:ka=0;
-la=5;
+case 4:ma=0;
+na=5;
 break;
 default:NEVER;
 }
 if(r8(p+16)!=0)port_rattle_dealloc(rp(p));
-ma=rp(o+1544);
-na=rp(o+1584);
-oa=r8(o+1600);
-pa=rp(o+1608);
-qa=r8(o+1624);
-ra=rp(o+1632);
-sa=r8(o+1648);
-ta=r8(o+1560);
+oa=rp(o+1544);
+pa=rp(o+1584);
+qa=r8(o+1600);
+ra=rp(o+1608);
+sa=r8(o+1624);
+ta=rp(o+1632);
+ua=r8(o+1648);
+va=r8(o+1560);
 memcpy(i,o,1544);
 drop_1dd(i);
-if(ta!=0)port_rattle_dealloc(ma);
-if(oa!=0)port_rattle_dealloc(na);
+if(va!=0)port_rattle_dealloc(oa);
 if(qa!=0)port_rattle_dealloc(pa);
 if(sa!=0)port_rattle_dealloc(ra);
-ca=0;
-da=ka;
-ea=la;
-L6:t=ca;
-u=da;
-v=ea;}
+if(ua!=0)port_rattle_dealloc(ta);
+fa=0;
+ga=ma;
+ha=na;
+L6:t=fa;
+u=ga;
+v=ha;}
 else{
-ua=*w;
-if(ua!=46&&*((u8*)t_e4d8+ua)>48){
+wa=*w;
+if(wa!=46&&*((u8*)t_e4d8+wa)>48){
 w=w+1;
 x=x-1;
 goto L2;}
@@ -147594,15 +147633,149 @@ x4(a+12,v);
 return;
 }
 
+/* sym_calls::text::symbol_with */
+static void symbol_with_8c9(u8* a,u8* b,u8* c,u8* d,u8 e,u32 f,u8* g,u64 h,u8* i,u64 j)
+{
+A16 u8 k[12];
+u8 l,m,r,v,B,G;
+u64 n,o,p,q,s,t,u,w,x,y,z,A,C,D,E,F,H,I;
+u32 J,K,M;
+u8 *L;
+if(r8(d+8)!=0)w8(d+8,0);
+z12(k);
+if(h>=21){
+if(g[2]==78){
+l=g[3];
+if((u8)(l-49)>=9){
+p=3;
+q=3;
+r=l;
+goto L1;}
+m=l;
+n=3;
+o=3;
+L2:s=o+9;
+t=o;
+u=0;
+L3:v=*(g+t)-48;
+if(v<10){
+w=u*10+v;
+x=t+1;
+if(x-o<9){
+t=x;
+u=w;
+goto L3;}
+if(s<h){
+if((u8)(*(g+s)-48)<10){
+p=o;
+q=n;
+r=m;
+goto L1;}
+y=w;
+z=s;}
+else{
+y=w;
+z=s;}}
+else{
+y=u;
+z=t;}
+A=z+y;
+if(A+17>=h){
+if(A>=h)goto L4;
+if(*(g+A)!=69)goto L4;
+C=A+1;
+if(h==C){
+if(o==3)goto L4;
+D=o;
+E=h;
+goto L5;}
+if(o==3||(h-C<2||*(g+(i64)C)!=46))goto L4;
+D=o;
+E=C;
+goto L5;}
+B=*(g+A);
+if((u8)(B-49)<9){
+m=B;
+n=o;
+o=A;
+goto L2;}
+p=A;
+q=o;
+r=B;
+L1:if(!((p<h)&(r==69)))goto L4;
+F=p+1;
+if(h==F){
+if(q==3)goto L4;
+D=q;
+E=h;}
+else{
+if(q==3||(h-F<2||*(g+(i64)F)!=46))goto L4;
+D=q;
+E=F;}
+L5:append_named_4f1(k,b,c,e,g,h,D,E,d);
+goto L6;}}
+L4:append_5ae(k,b,c,e,g,h,d);
+L6:if(*k==0){
+G=rewrite_or_remove_fa2(b+8,c+1544,e,g,h,0,d);
+if(!(G&1)){
+H=r8(d+8);
+if(j<H){
+I=H;
+J=0;
+K=6;
+goto L7;}
+L=rp(d);
+if((u64)i-(u64)L<H){
+copy_bits_4f4(L,i,H);
+I=H;
+J=0;
+K=0;
+goto L7;}
+memmove(i,L,H);
+I=H;
+J=0;
+K=0;
+goto L7;}}
+else{
+M=r4(k+8);
+switch(k[4]){
+case 0:I=0;
+J=uadd32(f,M);
+K=1;
+goto L7;
+case 1:I=0;
+J=uadd32(f,M);
+K=2;
+goto L7;
+case 2:I=0;
+J=uadd32(f,M);
+K=3;
+goto L7;
+case 3:I=0;
+J=0;
+K=4;
+goto L7;
+case 4:break;
+default:NEVER;
+}}
+I=0;
+J=0;
+K=5;
+L7:x8(a,I);
+x4(a+8,J);
+x4(a+12,K);
+return;
+}
+
 /* sym_calls::text::or_type */
 static void or_type_f0b(u8* a,u8* b,u8* c,u8* d,u64 e,u8* f,u64 g,u8* h)
 {
-A16 u8 i[1544],j[1544],k[24],l[24],m[12],n[12],o[1656],p[24];
-u64 q,t,x,y,A,E,L,S,W,Y,aa,ba,ca,oa,qa,sa,ta;
-u32 r,s,u,v,H,K,Q,T,da,ea,fa,ia,ja,ka,la;
-u8 *w,*B,*C,*I,*M,*N,*R,*U,*V,*X,*Z,*ma,*na,*pa,*ra;
+A16 u8 i[1544],j[1544],k[12],l[24],m[24],n[12],o[1656],p[24];
+u64 q,t,x,y,A,E,L,P,Q,R,S,U,V,W,Y,Z,aa,ba,ca,ea,fa,ga,ha,qa,ua,wa,ya,za,Aa,La,Na,Pa,Qa;
+u32 r,s,u,v,H,K,ka,oa,ra,Ba,Ca,Da,Ga,Ha,Ia;
+u8 *w,*B,*C,*I,*M,*la,*pa,*sa,*ta,*va,*xa,*Ja,*Ka,*Ma,*Oa;
 s_64_64 z;
-u8 D,F,G,J,O,P,ga,ha,ua;
+u8 D,F,G,J,N,O,T,X,da,ia,ja,ma,na,Ea,Fa,Ra;
 q=q8(h);
 r=q4(h+8);
 s=q4(h+12);
@@ -147716,8 +147889,6 @@ wp(o+1632,(u8*)65536);
 z16(o+1640);
 wp(p,(u8*)65536);
 z16(p+8);
-z24(l);
-z12(m);
 z12(n);
 z=port_rattle_alloc(4,1);
 if((u8)(z.f0&1)){
@@ -147725,146 +147896,227 @@ A=z.f1;
 B=(u8*)A;
 if(A-(u64)(u8*)t_f8a6<4)copy_bits_4f4((u8*)t_f8a6,B,4);
 else x4(B,1230264927);
-wp(k,B);
-w8(k+8,4);
-w8(k+16,4);
+wp(l,B);
+w8(l+8,4);
+w8(l+16,4);
 if(e==0){
 C=B;
 D=0;
 E=4;}
 else{
-F=grow_amortized_2b6(k,e);
+F=grow_amortized_2b6(l,e);
 if(!F){
-if(r8(k+16)==0){
+if(r8(l+16)==0){
 G=4;
 H=0;
 goto L3;}
-I=rp(k);
+I=rp(l);
 J=4;
 K=0;
 goto L4;}
-C=rp(k);
-D=r8(k+16)==0;
-E=r8(k+8);}
+C=rp(l);
+D=r8(l+16)==0;
+E=r8(l+8);}
 L=E+e;
 M=C+(i64)E;
 if((u64)M-(u64)d<e)copy_bits_4f4(d,M,e);
 else memmove(M,d,e);
-wp(l,(u8*)65536);
-z16(l+8);
-append_dd4(m,b,o,0,C,L,l);
-if(*m==0){
-N=rp(l);
-append_after_words_c13(n,N,r8(l+8),p);
-O=*n;
-P=n[4];
-Q=r4(n+8);
-if(r8(l+16)!=0)port_rattle_dealloc(N);
-if(!D)port_rattle_dealloc(C);
-if(O!=0){
-fa=Q;
-ga=P;
+wp(m,(u8*)65536);
+z16(m+8);
+z12(k);
+if(L>=21){
+if(C[2]==78){
+N=C[3];
+if((u8)(N-49)>=9){
+R=3;
+S=3;
+T=N;
 goto L5;}
-R=rp(p);
-S=r8(p+8);
-if(g<S)T=6;
+O=N;
+P=3;
+Q=3;
+L6:U=Q+9;
+V=Q;
+W=0;
+L7:X=*(C+V)-48;
+if(X<10){
+Y=W*10+X;
+Z=V+1;
+if(Z-Q<9){
+V=Z;
+W=Y;
+goto L7;}
+if(U<L){
+if((u8)(*(C+U)-48)<10){
+R=Q;
+S=P;
+T=O;
+goto L5;}
+aa=Y;
+ba=U;}
 else{
-if((u64)f-(u64)R<S){
-copy_bits_4f4(R,f,S);
-T=0;}
+aa=Y;
+ba=U;}}
 else{
-memmove(f,R,S);
-T=0;}}
-if(r8(p+16)!=0)port_rattle_dealloc(R);
-U=rp(o+1544);
-V=rp(o+1584);
-W=r8(o+1600);
-X=rp(o+1608);
-Y=r8(o+1624);
-Z=rp(o+1632);
-aa=r8(o+1648);
-ba=r8(o+1560);
+aa=W;
+ba=V;}
+ca=ba+aa;
+if(ca+17>=L){
+if(ca>=L)goto L8;
+if(*(C+ca)!=69)goto L8;
+ea=ca+1;
+if(L==ea){
+if(Q==3)goto L8;
+fa=Q;
+ga=L;
+goto L9;}
+if(Q==3||(L-ea<2||*(C+(i64)ea)!=46))goto L8;
+fa=Q;
+ga=ea;
+goto L9;}
+da=*(C+ca);
+if((u8)(da-49)<9){
+O=da;
+P=Q;
+Q=ca;
+goto L6;}
+R=ca;
+S=Q;
+T=da;
+L5:if(!((R<L)&(T==69)))goto L8;
+ha=R+1;
+if(L==ha){
+if(S==3)goto L8;
+fa=S;
+ga=L;}
+else{
+if(S==3||(L-ha<2||*(C+(i64)ha)!=46))goto L8;
+fa=S;
+ga=ha;}
+L9:append_named_4f1(k,b,o,0,C,L,fa,ga,m);
+goto L10;}}
+L8:append_5ae(k,b,o,0,C,L,m);
+L10:if(*k==0){
+ia=rewrite_or_remove_fa2(b+8,o+1544,0,C,L,0,m);
+if(!(ia&1)){
+la=rp(m);
+append_after_words_c13(n,la,r8(m+8),p);
+ma=*n;
+na=n[4];
+oa=r4(n+8);
+if(r8(m+16)!=0)port_rattle_dealloc(la);
+if(!D)port_rattle_dealloc(C);
+if(ma!=0){
+Da=oa;
+Ea=na;
+goto L11;}
+pa=rp(p);
+qa=r8(p+8);
+if(g<qa)ra=6;
+else{
+if((u64)f-(u64)pa<qa){
+copy_bits_4f4(pa,f,qa);
+ra=0;}
+else{
+memmove(f,pa,qa);
+ra=0;}}
+if(r8(p+16)!=0)port_rattle_dealloc(pa);
+sa=rp(o+1544);
+ta=rp(o+1584);
+ua=r8(o+1600);
+va=rp(o+1608);
+wa=r8(o+1624);
+xa=rp(o+1632);
+ya=r8(o+1648);
+za=r8(o+1560);
 memcpy(j,o,1544);
 drop_1dd(j);
-if(ba!=0)port_rattle_dealloc(U);
-if(W!=0)port_rattle_dealloc(V);
-if(Y!=0)port_rattle_dealloc(X);
-if(aa!=0)port_rattle_dealloc(Z);
-ca=S;
-da=0;
-ea=T;
-goto L6;}
-ha=m[4];
-ia=r4(m+8);
-switch(ha){
-case 0:ja=usub32(ia,4);
+if(za!=0)port_rattle_dealloc(sa);
+if(ua!=0)port_rattle_dealloc(ta);
+if(wa!=0)port_rattle_dealloc(va);
+if(ya!=0)port_rattle_dealloc(xa);
+Aa=qa;
+Ba=0;
+Ca=ra;
+goto L12;}
+ja=4;
+ka=0;}
+else{
+Fa=k[4];
+Ga=r4(k+8);
+switch(Fa){
+case 0:ja=0;
+ka=usub32(Ga,4);
 break;
-case 1:ja=usub32(ia,4);
+case 1:ja=1;
+ka=usub32(Ga,4);
 break;
-case 2:ja=usub32(ia,4);
+case 2:ja=2;
+ka=usub32(Ga,4);
 break;
-case 3:case 4:ja=0;
+case 3:case 4:ja=Fa;
+ka=0;
 break;
 default:NEVER;
-}
-if(r8(l+16)!=0)port_rattle_dealloc(rp(l));
+}}
+if(r8(m+16)!=0)port_rattle_dealloc(rp(m));
 if(D){
-G=ha;
-H=ja;
+G=ja;
+H=ka;
 goto L3;}
 I=C;
-J=ha;
-K=ja;
+J=ja;
+K=ka;
 L4:port_rattle_dealloc(I);
 G=J;
 H=K;}
 else{
 G=4;
 H=0;}
-L3:fa=H;
-ga=G;
-L5:switch(ga){
-case 0:ka=fa;
-la=1;
+L3:Da=H;
+Ea=G;
+L11:switch(Ea){
+case 0:Ha=Da;
+Ia=1;
 break;
-case 1:ka=fa;
-la=2;
+case 1:Ha=Da;
+Ia=2;
 break;
-case 2:ka=fa;
-la=3;
+case 2:Ha=Da;
+Ia=3;
 break;
-case 3:ka=0;
-la=4;
+case 3:Ha=0;
+Ia=4;
 break;
-case 4:ka=0;
-la=5;
+case 4:Ha=0;
+Ia=5;
 break;
 default:NEVER;
 }
 if(r8(p+16)!=0)port_rattle_dealloc(rp(p));
-ma=rp(o+1544);
-na=rp(o+1584);
-oa=r8(o+1600);
-pa=rp(o+1608);
-qa=r8(o+1624);
-ra=rp(o+1632);
-sa=r8(o+1648);
-ta=r8(o+1560);
+Ja=rp(o+1544);
+Ka=rp(o+1584);
+La=r8(o+1600);
+Ma=rp(o+1608);
+Na=r8(o+1624);
+Oa=rp(o+1632);
+Pa=r8(o+1648);
+Qa=r8(o+1560);
 memcpy(i,o,1544);
 drop_1dd(i);
-if(ta!=0)port_rattle_dealloc(ma);
-if(oa!=0)port_rattle_dealloc(na);
-if(qa!=0)port_rattle_dealloc(pa);
-if(sa!=0)port_rattle_dealloc(ra);
-ca=0;
-da=ka;
-ea=la;
-L6:t=ca;
-u=da;
-v=ea;}
+if(Qa!=0)port_rattle_dealloc(Ja);
+if(La!=0)port_rattle_dealloc(Ka);
+if(Na!=0)port_rattle_dealloc(Ma);
+if(Pa!=0)port_rattle_dealloc(Oa);
+Aa=0;
+Ba=Ha;
+Ca=Ia;
+L12:t=Aa;
+u=Ba;
+v=Ca;}
 else{
-ua=*w;
-if(ua!=46&&*((u8*)t_e4d8+ua)>48){
+Ra=*w;
+if(Ra!=46&&*((u8*)t_e4d8+Ra)>48){
 w=w+1;
 x=x-1;
 goto L2;}
@@ -147877,15 +148129,78 @@ x4(a+12,v);
 return;
 }
 
+/* sym_calls::text::symbol_with */
+static void symbol_with_d8d(u8* a,u8* b,u8* c,u8* d,u8 e,u32 f,u8* g,u64 h,u8* i,u64 j)
+{
+A16 u8 k[12];
+u8 l;
+u64 m,n;
+u32 o,p,r;
+u8 *q;
+if(r8(d+8)!=0)w8(d+8,0);
+z12(k);
+append_5ae(k,b,c,e,g,h,d);
+if(*k==0){
+l=rewrite_or_remove_fa2(b+8,c+1544,e,g,h,0,d);
+if(!(l&1)){
+m=r8(d+8);
+if(j<m){
+n=m;
+o=0;
+p=6;
+goto L1;}
+q=rp(d);
+if((u64)i-(u64)q<m){
+copy_bits_4f4(q,i,m);
+n=m;
+o=0;
+p=0;
+goto L1;}
+memmove(i,q,m);
+n=m;
+o=0;
+p=0;
+goto L1;}}
+else{
+r=r4(k+8);
+switch(k[4]){
+case 0:n=0;
+o=uadd32(f,r);
+p=1;
+goto L1;
+case 1:n=0;
+o=uadd32(f,r);
+p=2;
+goto L1;
+case 2:n=0;
+o=uadd32(f,r);
+p=3;
+goto L1;
+case 3:n=0;
+o=0;
+p=4;
+goto L1;
+case 4:break;
+default:NEVER;
+}}
+n=0;
+o=0;
+p=5;
+L1:x8(a,n);
+x4(a+8,o);
+x4(a+12,p);
+return;
+}
+
 /* sym_calls::text::or_type */
 static void or_type_504(u8* a,u8* b,u8* c,u8* d,u64 e,u8* f,u64 g,u8* h)
 {
-A16 u8 i[1544],j[1544],k[24],l[24],m[12],n[12],o[1656],p[24];
-u64 q,t,x,y,A,E,L,S,W,Y,aa,ba,ca,oa,qa,sa,ta;
-u32 r,s,u,v,H,K,Q,T,da,ea,fa,ia,ja,ka,la;
-u8 *w,*B,*C,*I,*M,*N,*R,*U,*V,*X,*Z,*ma,*na,*pa,*ra;
+A16 u8 i[1544],j[1544],k[12],l[24],m[24],n[12],o[1656],p[24];
+u64 q,t,x,y,A,E,L,V,Z,ba,da,ea,fa,qa,sa,ua,va;
+u32 r,s,u,v,H,K,P,T,W,ga,ha,ia,ka,ma,na;
+u8 *w,*B,*C,*I,*M,*Q,*U,*X,*Y,*aa,*ca,*oa,*pa,*ra,*ta;
 s_64_64 z;
-u8 D,F,G,J,O,P,ga,ha,ua;
+u8 D,F,G,J,N,O,R,S,ja,la,wa;
 q=q8(h);
 r=q4(h+8);
 s=q4(h+12);
@@ -147999,8 +148314,6 @@ wp(o+1632,(u8*)65536);
 z16(o+1640);
 wp(p,(u8*)65536);
 z16(p+8);
-z24(l);
-z12(m);
 z12(n);
 z=port_rattle_alloc(4,1);
 if((u8)(z.f0&1)){
@@ -148008,146 +148321,156 @@ A=z.f1;
 B=(u8*)A;
 if(A-(u64)(u8*)t_f8a6<4)copy_bits_4f4((u8*)t_f8a6,B,4);
 else x4(B,1230264927);
-wp(k,B);
-w8(k+8,4);
-w8(k+16,4);
+wp(l,B);
+w8(l+8,4);
+w8(l+16,4);
 if(e==0){
 C=B;
 D=0;
 E=4;}
 else{
-F=grow_amortized_2b6(k,e);
+F=grow_amortized_2b6(l,e);
 if(!F){
-if(r8(k+16)==0){
+if(r8(l+16)==0){
 G=4;
 H=0;
 goto L3;}
-I=rp(k);
+I=rp(l);
 J=4;
 K=0;
 goto L4;}
-C=rp(k);
-D=r8(k+16)==0;
-E=r8(k+8);}
+C=rp(l);
+D=r8(l+16)==0;
+E=r8(l+8);}
 L=E+e;
 M=C+(i64)E;
 if((u64)M-(u64)d<e)copy_bits_4f4(d,M,e);
 else memmove(M,d,e);
-wp(l,(u8*)65536);
-z16(l+8);
-append_a0b_2(m,b,o,0,C,L,l);
-if(*m==0){
-N=rp(l);
-append_after_words_c13(n,N,r8(l+8),p);
-O=*n;
-P=n[4];
-Q=r4(n+8);
-if(r8(l+16)!=0)port_rattle_dealloc(N);
+wp(m,(u8*)65536);
+z16(m+8);
+z12(k);
+append_5ae(k,b,o,0,C,L,m);
+if(*k==0){
+N=rewrite_or_remove_fa2(b+8,o+1544,0,C,L,0,m);
+if(!(N&1)){
+Q=rp(m);
+append_after_words_c13(n,Q,r8(m+8),p);
+R=*n;
+S=n[4];
+T=r4(n+8);
+if(r8(m+16)!=0)port_rattle_dealloc(Q);
 if(!D)port_rattle_dealloc(C);
-if(O!=0){
-fa=Q;
-ga=P;
+if(R!=0){
+ia=T;
+ja=S;
 goto L5;}
-R=rp(p);
-S=r8(p+8);
-if(g<S)T=6;
+U=rp(p);
+V=r8(p+8);
+if(g<V)W=6;
 else{
-if((u64)f-(u64)R<S){
-copy_bits_4f4(R,f,S);
-T=0;}
+if((u64)f-(u64)U<V){
+copy_bits_4f4(U,f,V);
+W=0;}
 else{
-memmove(f,R,S);
-T=0;}}
-if(r8(p+16)!=0)port_rattle_dealloc(R);
-U=rp(o+1544);
-V=rp(o+1584);
-W=r8(o+1600);
-X=rp(o+1608);
-Y=r8(o+1624);
-Z=rp(o+1632);
-aa=r8(o+1648);
-ba=r8(o+1560);
+memmove(f,U,V);
+W=0;}}
+if(r8(p+16)!=0)port_rattle_dealloc(U);
+X=rp(o+1544);
+Y=rp(o+1584);
+Z=r8(o+1600);
+aa=rp(o+1608);
+ba=r8(o+1624);
+ca=rp(o+1632);
+da=r8(o+1648);
+ea=r8(o+1560);
 memcpy(j,o,1544);
 drop_1dd(j);
-if(ba!=0)port_rattle_dealloc(U);
-if(W!=0)port_rattle_dealloc(V);
-if(Y!=0)port_rattle_dealloc(X);
-if(aa!=0)port_rattle_dealloc(Z);
-ca=S;
-da=0;
-ea=T;
+if(ea!=0)port_rattle_dealloc(X);
+if(Z!=0)port_rattle_dealloc(Y);
+if(ba!=0)port_rattle_dealloc(aa);
+if(da!=0)port_rattle_dealloc(ca);
+fa=V;
+ga=0;
+ha=W;
 goto L6;}
-ha=m[4];
-ia=r4(m+8);
-switch(ha){
-case 0:ja=usub32(ia,4);
+O=4;
+P=0;}
+else{
+ka=r4(k+8);
+la=k[4];
+switch(la){
+case 0:O=0;
+P=usub32(ka,4);
 break;
-case 1:ja=usub32(ia,4);
+case 1:O=1;
+P=usub32(ka,4);
 break;
-case 2:ja=usub32(ia,4);
+case 2:O=2;
+P=usub32(ka,4);
 break;
-case 3:case 4:ja=0;
+case 3:case 4:O=la;
+P=0;
 break;
 default:NEVER;
-}
-if(r8(l+16)!=0)port_rattle_dealloc(rp(l));
+}}
+if(r8(m+16)!=0)port_rattle_dealloc(rp(m));
 if(D){
-G=ha;
-H=ja;
+G=O;
+H=P;
 goto L3;}
 I=C;
-J=ha;
-K=ja;
+J=O;
+K=P;
 L4:port_rattle_dealloc(I);
 G=J;
 H=K;}
 else{
 G=4;
 H=0;}
-L3:fa=H;
-ga=G;
-L5:switch(ga){
-case 0:ka=fa;
-la=1;
+L3:ia=H;
+ja=G;
+L5:switch(ja){
+case 0:ma=ia;
+na=1;
 break;
-case 1:ka=fa;
-la=2;
+case 1:ma=ia;
+na=2;
 break;
-case 2:ka=fa;
-la=3;
+case 2:ma=ia;
+na=3;
 break;
-case 3:ka=0;
-la=4;
+case 3:ma=0;
+na=4;
 break;
-case 4:ka=0;
-la=5;
+case 4:ma=0;
+na=5;
 break;
 default:NEVER;
 }
 if(r8(p+16)!=0)port_rattle_dealloc(rp(p));
-ma=rp(o+1544);
-na=rp(o+1584);
-oa=r8(o+1600);
-pa=rp(o+1608);
-qa=r8(o+1624);
-ra=rp(o+1632);
-sa=r8(o+1648);
-ta=r8(o+1560);
+oa=rp(o+1544);
+pa=rp(o+1584);
+qa=r8(o+1600);
+ra=rp(o+1608);
+sa=r8(o+1624);
+ta=rp(o+1632);
+ua=r8(o+1648);
+va=r8(o+1560);
 memcpy(i,o,1544);
 drop_1dd(i);
-if(ta!=0)port_rattle_dealloc(ma);
-if(oa!=0)port_rattle_dealloc(na);
+if(va!=0)port_rattle_dealloc(oa);
 if(qa!=0)port_rattle_dealloc(pa);
 if(sa!=0)port_rattle_dealloc(ra);
-ca=0;
-da=ka;
-ea=la;
-L6:t=ca;
-u=da;
-v=ea;}
+if(ua!=0)port_rattle_dealloc(ta);
+fa=0;
+ga=ma;
+ha=na;
+L6:t=fa;
+u=ga;
+v=ha;}
 else{
-ua=*w;
-if(ua!=46&&*((u8*)t_e4d8+ua)>48){
+wa=*w;
+if(wa!=46&&*((u8*)t_e4d8+wa)>48){
 w=w+1;
 x=x-1;
 goto L2;}
@@ -150635,685 +150958,685 @@ return;
 /* symdemangle_text_of */
 static void symdemangle_text_of(u8* a,u64 b,u32 c,u32 d,u8* e,u64 f,u8* g)
 {
-A16 u8 h[1544],i[12],j[1656],k[24],l[16],m[8],n[16],o[1544],p[12],q[1656],r[24],s[16],t[8],u[16],v[12],w[12],x[1544],y[24],z[16],A[1544],B[1544],C[1544],D[24],E[16],F[16],G[24],H[12],I[1544],J[24],K[1544],L[1544],M[1544],N[16],O[1544],P[24],Q[1544],R[24],S[16],T[8],U[8],V[16],W[8],X[16],Y[1544],Z[12],aa[1656],ba[24],ca[16],da[8],ea[16],fa[1544],ga[12],ha[1656],ia[24],ja[16],ka[8],la[16],ma[12],na[12],oa[1544],pa[24],qa[16],ra[1544],sa[1544],ta[1544],ua[24],va[16],wa[16],xa[24],ya[12],za[1544],Aa[24],Ba[1544],Ca[1544],Da[1544],Ea[16],Fa[1544],Ga[24],Ha[1544],Ia[24],Ja[16],Ka[8],La[8],Ma[16],Na[8],Oa[16];
-u8 *Pa,*Qa,*nb,*pb,*sb,*wb,*xb,*Rb,*fc,*pc,*sc,*wc,*xc,*Xc,*ad,*bd,*dd,*fd,*Ad,*Dd,*Ed,*Gd,*Id,*Vd,*Xd,*ae,*ee,*fe,*ze,*Ne,*Xe,*af,*ef,*ff,*Df,*Gf,*Hf,*Jf,*Lf,*eg,*hg,*ig,*kg,*mg;
-u32 Ra,Ta,gb,hb,rb,ub,vb,zb,Ab,Bb,Cb,Db,Eb,Gb,Hb,Vb,Wb,bc,gc,hc,jc,kc,oc,rc,uc,vc,zc,Ac,Bc,Cc,Ec,Fc,Lc,Mc,Vc,Wc,Yc,Zc,jd,kd,md,nd,yd,zd,Bd,Cd,Od,Pd,Zd,ce,de,he,ie,je,ke,le,me,oe,pe,De,Ee,Je,Oe,Pe,Re,Se,We,Ze,cf,df,hf,jf,kf,lf,rf,sf,Bf,Cf,Ef,Ff,Pf,Qf,Sf,Tf,cg,dg,fg,gg;
-u64 Sa,Ya,Za,ab,bb,fb,jb,mb,ob,qb,tb,yb,Fb,Mb,Qb,Tb,Xb,Zb,ac,cc,dc,ec,qc,tc,yc,Dc,Gc,Kc,Oc,Rc,Sc,Tc,Uc,cd,ed,gd,hd,id,ld,pd,td,ud,vd,xd,Fd,Hd,Jd,Kd,Nd,Rd,Ud,Wd,Yd,be,ge,ne,ue,ye,Be,Fe,He,Ie,Ke,Le,Me,Ye,bf,gf,nf,qf,uf,xf,yf,zf,Af,If,Kf,Mf,Nf,Of,Rf,Vf,Yf,Zf,ag,bg,jg,lg,ng,og;
-u8 Ua,Va,Wa,Xa,cb,db,eb,ib,kb,lb,Ib,Jb,Kb,Lb,Nb,Ob,Pb,Sb,Ub,Yb,ic,lc,mc,nc,Hc,Ic,Jc,Nc,Pc,Qc,od,qd,sd,Ld,Md,Qd,Sd,Td,qe,re,se,te,ve,we,xe,Ae,Ce,Ge,Qe,Te,Ue,Ve,mf,of,pf,tf,vf,wf,Uf,Wf,Xf;
+A16 u8 h[1544],i[16],j[1656],k[24],l[16],m[8],n[1544],o[16],p[1656],q[24],r[16],s[8],t[12],u[12],v[1544],w[24],x[16],y[1544],z[1544],A[1544],B[24],C[16],D[16],E[24],F[12],G[1544],H[24],I[1544],J[1544],K[1544],L[16],M[1544],N[24],O[1544],P[24],Q[16],R[8],S[8],T[16],U[8],V[16],W[1544],X[16],Y[1656],Z[24],aa[16],ba[8],ca[1544],da[16],ea[1656],fa[24],ga[16],ha[8],ia[12],ja[12],ka[1544],la[24],ma[16],na[1544],oa[1544],pa[1544],qa[24],ra[16],sa[16],ta[24],ua[12],va[1544],wa[24],xa[1544],ya[1544],za[1544],Aa[16],Ba[1544],Ca[24],Da[1544],Ea[24],Fa[16],Ga[8],Ha[8],Ia[16],Ja[8],Ka[16];
+u8 *La,*Ma,*jb,*lb,*ob,*sb,*tb,*Nb,*bc,*lc,*oc,*sc,*tc,*Nc,*Oc,*Qc,*Sc,*fd,*gd,*id,*kd,*zd,*Bd,*Ed,*Id,*Jd,*de,*re,*Be,*Ee,*Ie,*Je,*af,*bf,*df,*ff,*tf,*uf,*wf,*yf;
+u32 Na,Pa,cb,db,nb,qb,rb,vb,wb,xb,yb,zb,Ab,Cb,Db,Rb,Sb,Xb,cc,dc,fc,gc,kc,nc,qc,rc,vc,wc,xc,yc,Ac,Bc,Gc,Wc,Xc,Yc,qd,sd,Dd,Gd,Hd,Ld,Md,Nd,Od,Pd,Qd,Sd,Td,he,ie,ne,se,te,ve,we,Ae,De,Ge,He,Le,Me,Ne,Oe,Te,kf,lf,mf;
+u64 Oa,Ua,Va,Wa,Xa,bb,fb,ib,kb,mb,pb,ub,Bb,Ib,Mb,Pb,Tb,Vb,Wb,Yb,Zb,ac,mc,pc,uc,zc,Cc,Ic,Lc,Mc,Pc,Rc,Tc,Uc,Vc,ad,dd,ed,hd,jd,ld,md,pd,ud,yd,Ad,Cd,Fd,Kd,Rd,Yd,ce,fe,je,le,me,oe,pe,qe,Ce,Fe,Ke,Qe,Ve,Ye,Ze,cf,ef,gf,hf,jf,of,rf,sf,vf,xf,zf,Af;
+u8 Qa,Ra,Sa,Ta,Ya,Za,ab,eb,gb,hb,Eb,Fb,Gb,Hb,Jb,Kb,Lb,Ob,Qb,Ub,ec,hc,ic,jc,Dc,Ec,Fc,Hc,Jc,Kc,Zc,bd,cd,nd,od,td,vd,xd,Ud,Vd,Wd,Xd,Zd,ae,be,ee,ge,ke,ue,xe,ye,ze,Pe,Re,Se,Ue,We,Xe,nf,pf,qf;
 if(d<1024){
-Pa=a+(i64)(u64)(a==0?4096:0);
-Qa=e+(i64)(u64)(e==0?4096:0);
-Ra=d&2;
-Sa=(d&1)==0?Ra:(Ra==0?1:3);
-Ta=d&256;
-Ua=d;
-Va=(Ua>>2)&1;
-Wa=(Ua>>3)&1;
-Xa=(Ua>>4)&1;
-Ya=((d>511)&(Ta!=0))?65536:0;
-Za=(((((u64)Va<<24)|Ta)|((u64)Wa<<32))|((u64)Xa<<40))|Sa;
-ab=Za|Ya;
-bb=(((d&64)==0?(u64)((Ua>>5)&1)<<48:0x2000000000000u)|((u64)((d>>7)&1)<<56))+ab;
-cb=Ta==0;
-if(Va==0){
-if(cb){
-w8(T,bb);
-z16(S);
+La=a+(i64)(u64)(a==0?4096:0);
+Ma=e+(i64)(u64)(e==0?4096:0);
+Na=d&2;
+Oa=(d&1)==0?Na:(Na==0?1:3);
+Pa=d&256;
+Qa=d;
+Ra=(Qa>>2)&1;
+Sa=(Qa>>3)&1;
+Ta=(Qa>>4)&1;
+Ua=((d>511)&(Pa!=0))?65536:0;
+Va=(((((u64)Ra<<24)|Pa)|((u64)Sa<<32))|((u64)Ta<<40))|Oa;
+Wa=Va|Ua;
+Xa=(((d&64)==0?(u64)((Qa>>5)&1)<<48:0x2000000000000u)|((u64)((d>>7)&1)<<56))+Wa;
+Ya=Pa==0;
+if(Ra==0){
+if(Ya){
+w8(R,Xa);
+z16(Q);
+w8(S,0);
+z16(T);
 w8(U,0);
 z16(V);
-w8(W,0);
-z16(X);
-db=Za;
-eb=b<2;
-if(Wa==0){
-w4(W,c);
-W[4]=db;
-z3(W+5);
-if(eb){
-fb=0;
-gb=0;
-hb=11;}
+Za=Va;
+ab=b<2;
+if(Sa==0){
+w4(U,c);
+U[4]=Za;
+z3(U+5);
+if(ab){
+bb=0;
+cb=0;
+db=11;}
 else{
-ib=*Pa==95;
+eb=*La==95;
 if(b==2){
-if(!ib){
-fb=0;
-gb=0;
-hb=11;
+if(!eb){
+bb=0;
+cb=0;
+db=11;
 goto L1;}
-switch(Pa[1]){
-case 90:jb=0;
-kb=0;
+switch(La[1]){
+case 90:fb=0;
+gb=0;
 goto L2;
 case 82:break;
-default:fb=0;
-gb=0;
-hb=11;
+default:bb=0;
+cb=0;
+db=11;
 goto L1;
 }}
 else{
-if(!ib){
-fb=0;
-gb=0;
-hb=11;
+if(!eb){
+bb=0;
+cb=0;
+db=11;
 goto L1;}
-switch(Pa[1]){
-case 90:jb=0;
-kb=0;
+switch(La[1]){
+case 90:fb=0;
+gb=0;
 goto L2;
 case 82:break;
-case 95:switch(Pa[2]){
-case 90:lb=0;
+case 95:switch(La[2]){
+case 90:hb=0;
 break;
-case 82:lb=1;
+case 82:hb=1;
 break;
-default:fb=0;
-gb=0;
-hb=11;
+default:bb=0;
+cb=0;
+db=11;
 goto L1;
 }
-if(Xa!=0){
-jb=1;
-kb=lb;
+if(Ta!=0){
+fb=1;
+gb=hb;
 goto L2;}
-fb=0;
-gb=0;
-hb=11;
+bb=0;
+cb=0;
+db=11;
 goto L1;
-default:fb=0;
-gb=0;
-hb=11;
+default:bb=0;
+cb=0;
+db=11;
 goto L1;
 }}
-jb=0;
-kb=1;
-L2:mb=b-jb;
-if(mb<16777217){
-nb=Pa+(i64)jb;
-short_once_196(D,W,kb,nb,mb,Qa,f);
-if(*D==1){
-fb=r8(D+8);
-gb=r4(D+16);
-hb=r4(D+20);}
+fb=0;
+gb=1;
+L2:ib=b-fb;
+if(ib<16777217){
+jb=La+(i64)fb;
+short_once_196(B,U,gb,jb,ib,Ma,f);
+if(*B==1){
+bb=r8(B+8);
+cb=r4(B+16);
+db=r4(B+20);}
 else{
-z16(y+8);
-z16(z);
+z16(w+8);
+z16(x);
+zero_all(y,1544);
+zero_all(z,1544);
 zero_all(A,1544);
-zero_all(B,1544);
-zero_all(C,1544);
-ob=(u64)(u8*)65536;
-wp(x,(u8*)65536);
-z24(x+8);
-wp(x+32,(u8*)65536);
-z16(x+40);
-wp(x+56,(u8*)65536);
-z32(x+64);
-wp(x+96,(u8*)65536);
-z16(x+104);
-wp(x+120,(u8*)65536);
-z32(x+128);
-wp(x+160,(u8*)65536);
-z80(x+168);
-wp(x+248,(u8*)65536);
-z16(x+256);
-wp(x+272,(u8*)65536);
-z40(x+280);
-wp(x+320,(u8*)65536);
-z16(x+328);
-wp(x+344,(u8*)65536);
-z16(x+352);
-wp(x+368,(u8*)65536);
-z16(x+376);
-wp(x+392,(u8*)65536);
-z16(x+400);
-wp(x+416,(u8*)65536);
-z16(x+424);
-wp(x+440,(u8*)65536);
-z48(x+448);
-wp(x+496,(u8*)65536);
-z32(x+504);
-wp(x+536,(u8*)65536);
-z32(x+544);
-wp(x+576,(u8*)65536);
-z104(x+584);
-w8(x+688,ob);
-z40(x+696);
-w8(x+736,ob);
-z16(x+744);
-wp(x+760,(u8*)65536);
-z32(x+768);
-wp(x+800,(u8*)65536);
-z24(x+808);
-wp(x+832,(u8*)65536);
-z16(x+840);
-wp(x+856,(u8*)65536);
-z32(x+864);
-wp(x+896,(u8*)65536);
-z16(x+904);
-wp(x+920,(u8*)65536);
-z24(x+928);
-wp(x+952,(u8*)65536);
-z16(x+960);
-wp(x+976,(u8*)65536);
-z16(x+984);
-wp(x+1000,(u8*)65536);
-z40(x+1008);
-wp(x+1048,(u8*)65536);
-z16(x+1056);
-wp(x+1072,(u8*)65536);
-z16(x+1080);
-wp(x+1096,(u8*)65536);
-z16(x+1104);
-wp(x+1120,(u8*)65536);
-z16(x+1128);
-wp(x+1144,(u8*)65536);
-z16(x+1152);
-wp(x+1168,(u8*)65536);
-z48(x+1176);
-wp(x+1224,(u8*)65536);
-z32(x+1232);
-wp(x+1264,(u8*)65536);
-z40(x+1272);
-wp(x+1312,(u8*)65536);
-z32(x+1320);
-wp(x+1352,(u8*)65536);
-z16(x+1360);
-wp(x+1376,(u8*)65536);
-z48(x+1384);
-w8(x+1432,ob);
-z40(x+1440);
-w8(x+1480,ob);
-z16(x+1488);
-wp(x+1504,(u8*)65536);
-z32(x+1512);
-wp(y,(u8*)65536);
-z16(y+8);
-demangle_665(z,W,x,kb,nb,mb,y);
-switch(*z){
-case 0:pb=rp(y);
-qb=r8(y+8);
-if(f<qb)rb=6;
+kb=(u64)(u8*)65536;
+wp(v,(u8*)65536);
+z24(v+8);
+wp(v+32,(u8*)65536);
+z16(v+40);
+wp(v+56,(u8*)65536);
+z32(v+64);
+wp(v+96,(u8*)65536);
+z16(v+104);
+wp(v+120,(u8*)65536);
+z32(v+128);
+wp(v+160,(u8*)65536);
+z80(v+168);
+wp(v+248,(u8*)65536);
+z16(v+256);
+wp(v+272,(u8*)65536);
+z40(v+280);
+wp(v+320,(u8*)65536);
+z16(v+328);
+wp(v+344,(u8*)65536);
+z16(v+352);
+wp(v+368,(u8*)65536);
+z16(v+376);
+wp(v+392,(u8*)65536);
+z16(v+400);
+wp(v+416,(u8*)65536);
+z16(v+424);
+wp(v+440,(u8*)65536);
+z48(v+448);
+wp(v+496,(u8*)65536);
+z32(v+504);
+wp(v+536,(u8*)65536);
+z32(v+544);
+wp(v+576,(u8*)65536);
+z104(v+584);
+w8(v+688,kb);
+z40(v+696);
+w8(v+736,kb);
+z16(v+744);
+wp(v+760,(u8*)65536);
+z32(v+768);
+wp(v+800,(u8*)65536);
+z24(v+808);
+wp(v+832,(u8*)65536);
+z16(v+840);
+wp(v+856,(u8*)65536);
+z32(v+864);
+wp(v+896,(u8*)65536);
+z16(v+904);
+wp(v+920,(u8*)65536);
+z24(v+928);
+wp(v+952,(u8*)65536);
+z16(v+960);
+wp(v+976,(u8*)65536);
+z16(v+984);
+wp(v+1000,(u8*)65536);
+z40(v+1008);
+wp(v+1048,(u8*)65536);
+z16(v+1056);
+wp(v+1072,(u8*)65536);
+z16(v+1080);
+wp(v+1096,(u8*)65536);
+z16(v+1104);
+wp(v+1120,(u8*)65536);
+z16(v+1128);
+wp(v+1144,(u8*)65536);
+z16(v+1152);
+wp(v+1168,(u8*)65536);
+z48(v+1176);
+wp(v+1224,(u8*)65536);
+z32(v+1232);
+wp(v+1264,(u8*)65536);
+z40(v+1272);
+wp(v+1312,(u8*)65536);
+z32(v+1320);
+wp(v+1352,(u8*)65536);
+z16(v+1360);
+wp(v+1376,(u8*)65536);
+z48(v+1384);
+w8(v+1432,kb);
+z40(v+1440);
+w8(v+1480,kb);
+z16(v+1488);
+wp(v+1504,(u8*)65536);
+z32(v+1512);
+wp(w,(u8*)65536);
+z16(w+8);
+demangle_665(x,U,v,gb,jb,ib,w);
+switch(*x){
+case 0:lb=rp(w);
+mb=r8(w+8);
+if(f<mb)nb=6;
 else{
-if((u64)Qa-(u64)pb<qb){
-copy_bits_4f4(pb,Qa,qb);
-rb=0;}
+if((u64)Ma-(u64)lb<mb){
+copy_bits_4f4(lb,Ma,mb);
+nb=0;}
 else{
-memmove(Qa,pb,qb);
-rb=0;}}
-if(r8(y+16)==0){
-sb=A;
-tb=qb;
-ub=0;
-vb=rb;
+memmove(Ma,lb,mb);
+nb=0;}}
+if(r8(w+16)==0){
+ob=y;
+pb=mb;
+qb=0;
+rb=nb;
 goto L3;}
-wb=pb;
-xb=A;
-yb=qb;
-zb=0;
-Ab=rb;
+sb=lb;
+tb=y;
+ub=mb;
+vb=0;
+wb=nb;
 break;
-case 1:if(r8(y+16)==0){
-sb=B;
-tb=0;
-ub=0;
-vb=4;
+case 1:if(r8(w+16)==0){
+ob=z;
+pb=0;
+qb=0;
+rb=4;
 goto L3;}
-wb=rp(y);
-xb=B;
-yb=0;
-zb=0;
+sb=rp(w);
+tb=z;
+ub=0;
+vb=0;
+wb=4;
+break;
+case 2:xb=fb;
+yb=r4(x+8);
+switch(x[4]){
+case 0:zb=uadd32(xb,yb);
+Ab=1;
+break;
+case 1:zb=uadd32(xb,yb);
+Ab=2;
+break;
+case 2:zb=uadd32(xb,yb);
+Ab=3;
+break;
+case 3:zb=0;
 Ab=4;
 break;
-case 2:Bb=jb;
-Cb=r4(z+8);
-switch(z[4]){
-case 0:Db=uadd32(Bb,Cb);
-Eb=1;
-break;
-case 1:Db=uadd32(Bb,Cb);
-Eb=2;
-break;
-case 2:Db=uadd32(Bb,Cb);
-Eb=3;
-break;
-case 3:Db=0;
-Eb=4;
-break;
-case 4:Db=0;
-Eb=5;
+case 4:zb=0;
+Ab=5;
 break;
 default:NEVER;
 }
-if(r8(y+16)==0){
-sb=C;
-tb=0;
-ub=Db;
-vb=Eb;
+if(r8(w+16)==0){
+ob=A;
+pb=0;
+qb=zb;
+rb=Ab;
 goto L3;}
-wb=rp(y);
-xb=C;
-yb=0;
-zb=Db;
-Ab=Eb;
+sb=rp(w);
+tb=A;
+ub=0;
+vb=zb;
+wb=Ab;
 break;
 default:NEVER;
 }
-port_rattle_dealloc(wb);
-sb=xb;
-tb=yb;
-ub=zb;
-vb=Ab;
-L3:memcpy(sb,x,1544);
-drop_1dd(sb);
-fb=tb;
-gb=ub;
-hb=vb;}}
+port_rattle_dealloc(sb);
+ob=tb;
+pb=ub;
+qb=vb;
+rb=wb;
+L3:memcpy(ob,v,1544);
+drop_1dd(ob);
+bb=pb;
+cb=qb;
+db=rb;}}
 else{
-fb=0;
-gb=0;
-hb=7;}}
-L1:w8(X,fb);
-w4(X+8,gb);
-w4(X+12,hb);
-or_type_2d2(S,W,T,Pa,b,Qa,f,X);}
+bb=0;
+cb=0;
+db=7;}}
+L1:w8(V,bb);
+w4(V+8,cb);
+w4(V+12,db);
+or_type_2d2(Q,U,R,La,b,Ma,f,V);}
 else{
-w4(U,c);
-U[4]=db;
-z3(U+5);
-if(eb){
-Fb=0;
-Gb=0;
-Hb=11;}
+w4(S,c);
+S[4]=Za;
+z3(S+5);
+if(ab){
+Bb=0;
+Cb=0;
+Db=11;}
 else{
-Ib=b==2;
-Jb=*Pa==95;
-if(Ib){
-if(!Jb){
-Fb=0;
-Gb=0;
-Hb=11;
+Eb=b==2;
+Fb=*La==95;
+if(Eb){
+if(!Fb){
+Bb=0;
+Cb=0;
+Db=11;
 goto L4;}
-Kb=Pa[1];
+Gb=La[1];
+switch(Gb){
+case 90:Hb=Gb;
+Ib=0;
+Jb=0;
+goto L5;
+case 82:break;
+default:Bb=0;
+Cb=0;
+Db=11;
+goto L4;
+}}
+else{
+if(!Fb){
+Bb=0;
+Cb=0;
+Db=11;
+goto L4;}
+Kb=La[1];
 switch(Kb){
-case 90:Lb=Kb;
-Mb=0;
-Nb=0;
+case 90:Hb=Kb;
+Ib=0;
+Jb=0;
 goto L5;
 case 82:break;
-default:Fb=0;
-Gb=0;
-Hb=11;
+case 95:switch(La[2]){
+case 90:Lb=0;
+break;
+case 82:Lb=1;
+break;
+default:Bb=0;
+Cb=0;
+Db=11;
+goto L4;
+}
+if(Ta==0){
+Bb=0;
+Cb=0;
+Db=11;
+goto L4;}
+Hb=95;
+Ib=1;
+Jb=Lb;
+goto L5;
+default:Bb=0;
+Cb=0;
+Db=11;
 goto L4;
 }}
-else{
-if(!Jb){
-Fb=0;
-Gb=0;
-Hb=11;
-goto L4;}
-Ob=Pa[1];
-switch(Ob){
-case 90:Lb=Ob;
-Mb=0;
-Nb=0;
-goto L5;
-case 82:break;
-case 95:switch(Pa[2]){
+Hb=82;
+Ib=0;
+Jb=1;
+L5:Mb=b-Ib;
+if(Mb<16777217){
+Nb=La+(i64)Ib;
+Ob=may_be_legacy_350(Nb,Mb);
+if(Ob){
+z16(L);
+if(Eb){
+switch(Hb){
 case 90:Pb=0;
-break;
-case 82:Pb=1;
-break;
-default:Fb=0;
-Gb=0;
-Hb=11;
-goto L4;
-}
-if(Xa==0){
-Fb=0;
-Gb=0;
-Hb=11;
-goto L4;}
-Lb=95;
-Mb=1;
-Nb=Pb;
-goto L5;
-default:Fb=0;
-Gb=0;
-Hb=11;
-goto L4;
-}}
-Lb=82;
-Mb=0;
-Nb=1;
-L5:Qb=b-Mb;
-if(Qb<16777217){
-Rb=Pa+(i64)Mb;
-Sb=may_be_legacy_350(Rb,Qb);
-if(Sb){
-z16(N);
-if(Ib){
-switch(Lb){
-case 90:Tb=0;
-Ub=0;
+Qb=0;
 goto L6;
 case 82:break;
-default:Vb=11;
-Wb=0;
-Xb=0;
+default:Rb=11;
+Sb=0;
+Tb=0;
 goto L7;
 }}
 else{
-switch(Lb){
-case 90:Tb=0;
-Ub=0;
+switch(Hb){
+case 90:Pb=0;
+Qb=0;
 goto L6;
 case 82:break;
-case 95:switch(Pa[2]){
-case 90:Yb=0;
+case 95:switch(La[2]){
+case 90:Ub=0;
 break;
-case 82:Yb=1;
+case 82:Ub=1;
 break;
-default:Vb=11;
-Wb=0;
-Xb=0;
+default:Rb=11;
+Sb=0;
+Tb=0;
 goto L7;
 }
-if(Xa!=0){
-Tb=1;
-Ub=Yb;
+if(Ta!=0){
+Pb=1;
+Qb=Ub;
 goto L6;}
-Vb=11;
-Wb=0;
-Xb=0;
+Rb=11;
+Sb=0;
+Tb=0;
 goto L7;
 default:NEVER;
 }}
-Tb=0;
-Ub=1;
-L6:Zb=b-Tb;
-if(Zb<16777217){
-ac=(u64)(u8*)65536;
-wp(O,(u8*)65536);
-z24(O+8);
-wp(O+32,(u8*)65536);
-z16(O+40);
-wp(O+56,(u8*)65536);
-z32(O+64);
-wp(O+96,(u8*)65536);
-z16(O+104);
-wp(O+120,(u8*)65536);
-z32(O+128);
-wp(O+160,(u8*)65536);
-z80(O+168);
-wp(O+248,(u8*)65536);
-z16(O+256);
-wp(O+272,(u8*)65536);
-z40(O+280);
-wp(O+320,(u8*)65536);
-z16(O+328);
-wp(O+344,(u8*)65536);
-z16(O+352);
-wp(O+368,(u8*)65536);
-z16(O+376);
-wp(O+392,(u8*)65536);
-z16(O+400);
-wp(O+416,(u8*)65536);
-z16(O+424);
-wp(O+440,(u8*)65536);
-z48(O+448);
-wp(O+496,(u8*)65536);
-z32(O+504);
-wp(O+536,(u8*)65536);
-z32(O+544);
-wp(O+576,(u8*)65536);
-z104(O+584);
-w8(O+688,ac);
-z40(O+696);
-w8(O+736,ac);
-z16(O+744);
-wp(O+760,(u8*)65536);
-z32(O+768);
-wp(O+800,(u8*)65536);
-z24(O+808);
-wp(O+832,(u8*)65536);
-z16(O+840);
-wp(O+856,(u8*)65536);
-z32(O+864);
-wp(O+896,(u8*)65536);
-z16(O+904);
-wp(O+920,(u8*)65536);
-z24(O+928);
-wp(O+952,(u8*)65536);
-z16(O+960);
-wp(O+976,(u8*)65536);
-z16(O+984);
-wp(O+1000,(u8*)65536);
-z40(O+1008);
-wp(O+1048,(u8*)65536);
-z16(O+1056);
-wp(O+1072,(u8*)65536);
-z16(O+1080);
-wp(O+1096,(u8*)65536);
-z16(O+1104);
-wp(O+1120,(u8*)65536);
-z16(O+1128);
-wp(O+1144,(u8*)65536);
-z16(O+1152);
-wp(O+1168,(u8*)65536);
-z48(O+1176);
-wp(O+1224,(u8*)65536);
-z32(O+1232);
-wp(O+1264,(u8*)65536);
-z40(O+1272);
-wp(O+1312,(u8*)65536);
-z32(O+1320);
-wp(O+1352,(u8*)65536);
-z16(O+1360);
-wp(O+1376,(u8*)65536);
-z48(O+1384);
-w8(O+1432,ac);
-z40(O+1440);
-w8(O+1480,ac);
-z16(O+1488);
-wp(O+1504,(u8*)65536);
-z32(O+1512);
-wp(P,(u8*)65536);
-z16(P+8);
-symbol_with_be6(N,U,O,P,Ub,Tb,Pa+(i64)Tb,Zb,Qa,f);
-if(r8(P+16)!=0)port_rattle_dealloc(rp(P));
-memcpy(Q,O,1544);
-drop_1dd(Q);
-Vb=r4(N+12);
-Wb=r4(N+8);
-Xb=r8(N);}
+Pb=0;
+Qb=1;
+L6:Vb=b-Pb;
+if(Vb<16777217){
+Wb=(u64)(u8*)65536;
+wp(M,(u8*)65536);
+z24(M+8);
+wp(M+32,(u8*)65536);
+z16(M+40);
+wp(M+56,(u8*)65536);
+z32(M+64);
+wp(M+96,(u8*)65536);
+z16(M+104);
+wp(M+120,(u8*)65536);
+z32(M+128);
+wp(M+160,(u8*)65536);
+z80(M+168);
+wp(M+248,(u8*)65536);
+z16(M+256);
+wp(M+272,(u8*)65536);
+z40(M+280);
+wp(M+320,(u8*)65536);
+z16(M+328);
+wp(M+344,(u8*)65536);
+z16(M+352);
+wp(M+368,(u8*)65536);
+z16(M+376);
+wp(M+392,(u8*)65536);
+z16(M+400);
+wp(M+416,(u8*)65536);
+z16(M+424);
+wp(M+440,(u8*)65536);
+z48(M+448);
+wp(M+496,(u8*)65536);
+z32(M+504);
+wp(M+536,(u8*)65536);
+z32(M+544);
+wp(M+576,(u8*)65536);
+z104(M+584);
+w8(M+688,Wb);
+z40(M+696);
+w8(M+736,Wb);
+z16(M+744);
+wp(M+760,(u8*)65536);
+z32(M+768);
+wp(M+800,(u8*)65536);
+z24(M+808);
+wp(M+832,(u8*)65536);
+z16(M+840);
+wp(M+856,(u8*)65536);
+z32(M+864);
+wp(M+896,(u8*)65536);
+z16(M+904);
+wp(M+920,(u8*)65536);
+z24(M+928);
+wp(M+952,(u8*)65536);
+z16(M+960);
+wp(M+976,(u8*)65536);
+z16(M+984);
+wp(M+1000,(u8*)65536);
+z40(M+1008);
+wp(M+1048,(u8*)65536);
+z16(M+1056);
+wp(M+1072,(u8*)65536);
+z16(M+1080);
+wp(M+1096,(u8*)65536);
+z16(M+1104);
+wp(M+1120,(u8*)65536);
+z16(M+1128);
+wp(M+1144,(u8*)65536);
+z16(M+1152);
+wp(M+1168,(u8*)65536);
+z48(M+1176);
+wp(M+1224,(u8*)65536);
+z32(M+1232);
+wp(M+1264,(u8*)65536);
+z40(M+1272);
+wp(M+1312,(u8*)65536);
+z32(M+1320);
+wp(M+1352,(u8*)65536);
+z16(M+1360);
+wp(M+1376,(u8*)65536);
+z48(M+1384);
+w8(M+1432,Wb);
+z40(M+1440);
+w8(M+1480,Wb);
+z16(M+1488);
+wp(M+1504,(u8*)65536);
+z32(M+1512);
+wp(N,(u8*)65536);
+z16(N+8);
+symbol_with_be6(L,S,M,N,Qb,Pb,La+(i64)Pb,Vb,Ma,f);
+if(r8(N+16)!=0)port_rattle_dealloc(rp(N));
+memcpy(O,M,1544);
+drop_1dd(O);
+Rb=r4(L+12);
+Sb=r4(L+8);
+Tb=r8(L);}
 else{
-Vb=7;
-Wb=0;
-Xb=0;}
-L7:Fb=Xb;
-Gb=Wb;
-Hb=Vb;}
+Rb=7;
+Sb=0;
+Tb=0;}
+L7:Bb=Tb;
+Cb=Sb;
+Db=Rb;}
 else{
-short_once_196(R,U,Nb,Rb,Qb,Qa,f);
-if(*R==1){
-Fb=r8(R+8);
-Gb=r4(R+16);
-Hb=r4(R+20);}
+short_once_196(P,S,Jb,Nb,Mb,Ma,f);
+if(*P==1){
+Bb=r8(P+8);
+Cb=r4(P+16);
+Db=r4(P+20);}
 else{
-bc=Mb;
+Xb=Ib;
+zero_all(I,1544);
+zero_all(J,1544);
 zero_all(K,1544);
-zero_all(L,1544);
-zero_all(M,1544);
-cc=(u64)(u8*)65536;
-wp(I,(u8*)65536);
-z24(I+8);
-wp(I+32,(u8*)65536);
-z16(I+40);
-wp(I+56,(u8*)65536);
-z32(I+64);
-wp(I+96,(u8*)65536);
-z16(I+104);
-wp(I+120,(u8*)65536);
-z32(I+128);
-wp(I+160,(u8*)65536);
-z80(I+168);
-wp(I+248,(u8*)65536);
-z16(I+256);
-wp(I+272,(u8*)65536);
-z40(I+280);
-wp(I+320,(u8*)65536);
-z16(I+328);
-wp(I+344,(u8*)65536);
-z16(I+352);
-wp(I+368,(u8*)65536);
-z16(I+376);
-wp(I+392,(u8*)65536);
-z16(I+400);
-wp(I+416,(u8*)65536);
-z16(I+424);
-wp(I+440,(u8*)65536);
-z48(I+448);
-wp(I+496,(u8*)65536);
-z32(I+504);
-wp(I+536,(u8*)65536);
-z32(I+544);
-wp(I+576,(u8*)65536);
-z104(I+584);
-w8(I+688,cc);
-z40(I+696);
-w8(I+736,cc);
-z16(I+744);
-wp(I+760,(u8*)65536);
-z32(I+768);
-wp(I+800,(u8*)65536);
-z24(I+808);
-wp(I+832,(u8*)65536);
-z16(I+840);
-wp(I+856,(u8*)65536);
-z32(I+864);
-wp(I+896,(u8*)65536);
-z16(I+904);
-wp(I+920,(u8*)65536);
-z24(I+928);
-wp(I+952,(u8*)65536);
-z16(I+960);
-wp(I+976,(u8*)65536);
-z16(I+984);
-wp(I+1000,(u8*)65536);
-z40(I+1008);
-wp(I+1048,(u8*)65536);
-z16(I+1056);
-wp(I+1072,(u8*)65536);
-z16(I+1080);
-wp(I+1096,(u8*)65536);
-z16(I+1104);
-wp(I+1120,(u8*)65536);
-z16(I+1128);
-wp(I+1144,(u8*)65536);
-z16(I+1152);
-wp(I+1168,(u8*)65536);
-z48(I+1176);
-wp(I+1224,(u8*)65536);
-z32(I+1232);
-wp(I+1264,(u8*)65536);
-z40(I+1272);
-wp(I+1312,(u8*)65536);
-z32(I+1320);
-wp(I+1352,(u8*)65536);
-z16(I+1360);
-wp(I+1376,(u8*)65536);
-z48(I+1384);
-w8(I+1432,cc);
-z40(I+1440);
-w8(I+1480,cc);
-z16(I+1488);
-wp(I+1504,(u8*)65536);
-z32(I+1512);
-wp(J,(u8*)65536);
-z16(J+8);
-z24(G);
-z12(H);
-path_of_ea7(G,Rb,Qb);
-if(*G==1){
-dc=r8(G+8);
-ec=r8(G+16);
-demangle_665(E,U,I,Nb,Rb,Qb,J);
-switch(*E){
-case 0:w8(J+8,0);
-fc=E+4;
+Yb=(u64)(u8*)65536;
+wp(G,(u8*)65536);
+z24(G+8);
+wp(G+32,(u8*)65536);
+z16(G+40);
+wp(G+56,(u8*)65536);
+z32(G+64);
+wp(G+96,(u8*)65536);
+z16(G+104);
+wp(G+120,(u8*)65536);
+z32(G+128);
+wp(G+160,(u8*)65536);
+z80(G+168);
+wp(G+248,(u8*)65536);
+z16(G+256);
+wp(G+272,(u8*)65536);
+z40(G+280);
+wp(G+320,(u8*)65536);
+z16(G+328);
+wp(G+344,(u8*)65536);
+z16(G+352);
+wp(G+368,(u8*)65536);
+z16(G+376);
+wp(G+392,(u8*)65536);
+z16(G+400);
+wp(G+416,(u8*)65536);
+z16(G+424);
+wp(G+440,(u8*)65536);
+z48(G+448);
+wp(G+496,(u8*)65536);
+z32(G+504);
+wp(G+536,(u8*)65536);
+z32(G+544);
+wp(G+576,(u8*)65536);
+z104(G+584);
+w8(G+688,Yb);
+z40(G+696);
+w8(G+736,Yb);
+z16(G+744);
+wp(G+760,(u8*)65536);
+z32(G+768);
+wp(G+800,(u8*)65536);
+z24(G+808);
+wp(G+832,(u8*)65536);
+z16(G+840);
+wp(G+856,(u8*)65536);
+z32(G+864);
+wp(G+896,(u8*)65536);
+z16(G+904);
+wp(G+920,(u8*)65536);
+z24(G+928);
+wp(G+952,(u8*)65536);
+z16(G+960);
+wp(G+976,(u8*)65536);
+z16(G+984);
+wp(G+1000,(u8*)65536);
+z40(G+1008);
+wp(G+1048,(u8*)65536);
+z16(G+1056);
+wp(G+1072,(u8*)65536);
+z16(G+1080);
+wp(G+1096,(u8*)65536);
+z16(G+1104);
+wp(G+1120,(u8*)65536);
+z16(G+1128);
+wp(G+1144,(u8*)65536);
+z16(G+1152);
+wp(G+1168,(u8*)65536);
+z48(G+1176);
+wp(G+1224,(u8*)65536);
+z32(G+1232);
+wp(G+1264,(u8*)65536);
+z40(G+1272);
+wp(G+1312,(u8*)65536);
+z32(G+1320);
+wp(G+1352,(u8*)65536);
+z16(G+1360);
+wp(G+1376,(u8*)65536);
+z48(G+1384);
+w8(G+1432,Yb);
+z40(G+1440);
+w8(G+1480,Yb);
+z16(G+1488);
+wp(G+1504,(u8*)65536);
+z32(G+1512);
+wp(H,(u8*)65536);
+z16(H+8);
+z24(E);
+z12(F);
+path_of_ea7(E,Nb,Mb);
+if(*E==1){
+Zb=r8(E+8);
+ac=r8(E+16);
+demangle_665(C,S,G,Jb,Nb,Mb,H);
+switch(*C){
+case 0:w8(H+8,0);
+bc=C+4;
 break;
-case 1:fc=E+4;
+case 1:bc=C+4;
 break;
 case 2:goto L8;
 default:NEVER;
 }
-gc=r4(fc);
-hc=r4(E+8);
-push_text_eb0(H,Rb,Qb,dc,ec,r4(U),J);
-if(*H==0){
-ic=0;
-jc=gc;
-kc=hc;}
+cc=r4(bc);
+dc=r4(C+8);
+push_text_eb0(F,Nb,Mb,Zb,ac,r4(S),H);
+if(*F==0){
+ec=0;
+fc=cc;
+gc=dc;}
 else{
-lc=H[4]==3;
-ic=lc?1:2;
-jc=lc?gc:4;
-kc=lc?hc:0;}
-mc=ic;
-nc=jc;
-oc=kc;}
+hc=F[4]==3;
+ec=hc?1:2;
+fc=hc?cc:4;
+gc=hc?dc:0;}
+ic=ec;
+jc=fc;
+kc=gc;}
 else{
-demangle_665(F,U,I,Nb,Rb,Qb,J);
-mc=*F;
-nc=F[4];
-oc=r4(F+8);}
-switch(mc){
-case 0:pc=rp(J);
-qc=r8(J+8);
-if(f<qc)rc=6;
+demangle_665(D,S,G,Jb,Nb,Mb,H);
+ic=*D;
+jc=D[4];
+kc=r4(D+8);}
+switch(ic){
+case 0:lc=rp(H);
+mc=r8(H+8);
+if(f<mc)nc=6;
 else{
-if((u64)Qa-(u64)pc<qc){
-copy_bits_4f4(pc,Qa,qc);
-rc=0;}
+if((u64)Ma-(u64)lc<mc){
+copy_bits_4f4(lc,Ma,mc);
+nc=0;}
 else{
-memmove(Qa,pc,qc);
-rc=0;}}
-if(r8(J+16)==0){
-sc=K;
-tc=qc;
-uc=0;
-vc=rc;
+memmove(Ma,lc,mc);
+nc=0;}}
+if(r8(H+16)==0){
+oc=I;
+pc=mc;
+qc=0;
+rc=nc;
 goto L9;}
-wc=pc;
-xc=K;
-yc=qc;
-zc=0;
-Ac=rc;
+sc=lc;
+tc=I;
+uc=mc;
+vc=0;
+wc=nc;
 goto L10;
-case 1:if(r8(J+16)==0){
-sc=L;
-tc=0;
-uc=0;
-vc=4;
+case 1:if(r8(H+16)==0){
+oc=J;
+pc=0;
+qc=0;
+rc=4;
 goto L9;}
-wc=rp(J);
-xc=L;
-yc=0;
-zc=0;
-Ac=4;
+sc=rp(H);
+tc=J;
+uc=0;
+vc=0;
+wc=4;
 goto L10;
-case 2:switch(nc){
-case 0:Bc=uadd32(bc,oc);
-Cc=1;
+case 2:switch(jc){
+case 0:xc=uadd32(Xb,kc);
+yc=1;
 goto L11;
-case 1:Bc=uadd32(bc,oc);
-Cc=2;
+case 1:xc=uadd32(Xb,kc);
+yc=2;
 goto L11;
-case 2:Bc=uadd32(bc,oc);
-Cc=3;
+case 2:xc=uadd32(Xb,kc);
+yc=3;
 goto L11;
-case 3:Bc=0;
-Cc=4;
+case 3:xc=0;
+yc=4;
 goto L11;
 case 4:break;
 default:NEVER;
@@ -151321,359 +151644,278 @@ default:NEVER;
 break;
 default:NEVER;
 }
-L8:Bc=0;
-Cc=5;
-L11:if(r8(J+16)==0){
-sc=M;
-tc=0;
-uc=Bc;
-vc=Cc;
+L8:xc=0;
+yc=5;
+L11:if(r8(H+16)==0){
+oc=K;
+pc=0;
+qc=xc;
+rc=yc;
 goto L9;}
-wc=rp(J);
-xc=M;
-yc=0;
-zc=Bc;
-Ac=Cc;
-L10:port_rattle_dealloc(wc);
-sc=xc;
-tc=yc;
-uc=zc;
-vc=Ac;
-L9:memcpy(sc,I,1544);
-drop_1dd(sc);
-Fb=tc;
-Gb=uc;
-Hb=vc;}}}
+sc=rp(H);
+tc=K;
+uc=0;
+vc=xc;
+wc=yc;
+L10:port_rattle_dealloc(sc);
+oc=tc;
+pc=uc;
+qc=vc;
+rc=wc;
+L9:memcpy(oc,G,1544);
+drop_1dd(oc);
+Bb=pc;
+Cb=qc;
+Db=rc;}}}
 else{
-Fb=0;
-Gb=0;
-Hb=7;}}
-L4:w8(V,Fb);
-w4(V+8,Gb);
-w4(V+12,Hb);
-or_type_81e(S,U,T,Pa,b,Qa,f,V);}
-Dc=r8(S);
-Ec=r4(S+8);
-Fc=r4(S+12);}
+Bb=0;
+Cb=0;
+Db=7;}}
+L4:w8(T,Bb);
+w4(T+8,Cb);
+w4(T+12,Db);
+or_type_81e(Q,S,R,La,b,Ma,f,T);}
+zc=r8(Q);
+Ac=r4(Q+8);
+Bc=r4(Q+12);}
 else{
-Gc=bb>>32;
-Hc=Gc;
-z12(v);
-z12(w);
-Ic=Za;
-Jc=(u8)(ab>>16)&1;
-if((u8)(Gc&1)){
-w4(v,c);
-v[4]=Ic;
-z3(v+5);
-v[8]=Jc;
-v[9]=Hc;
-w8(t,bb);
-z16(s);
-zero_all(q+1480,176);
-z24(r);
-if(b<2){
-Kc=0;
-Lc=0;
-Mc=11;}
+Cc=Xa>>32;
+Dc=Cc;
+z12(t);
+z12(u);
+Ec=Va;
+Fc=(u8)(Wa>>16)&1;
+if((u8)(Cc&1)){
+w4(t,c);
+t[4]=Ec;
+z3(t+5);
+t[8]=Fc;
+t[9]=Dc;
+w8(s,Xa);
+z16(r);
+z16(o);
+zero_all(p+1480,176);
+z24(q);
+if(b<2)Gc=11;
 else{
-Nc=*Pa==95;
+Hc=*La==95;
 if(b==2){
-if(!Nc){
-Kc=0;
-Lc=0;
-Mc=11;
+if(!Hc){
+Gc=11;
 goto L12;}
-switch(Pa[1]){
-case 90:Oc=0;
-Pc=0;
+switch(La[1]){
+case 90:Ic=0;
+Jc=0;
 goto L13;
 case 82:break;
-default:Kc=0;
-Lc=0;
-Mc=11;
+default:Gc=11;
 goto L12;
 }}
 else{
-if(!Nc){
-Kc=0;
-Lc=0;
-Mc=11;
+if(!Hc){
+Gc=11;
 goto L12;}
-switch(Pa[1]){
-case 90:Oc=0;
-Pc=0;
+switch(La[1]){
+case 90:Ic=0;
+Jc=0;
 goto L13;
 case 82:break;
-case 95:switch(Pa[2]){
-case 90:Qc=0;
+case 95:switch(La[2]){
+case 90:Kc=0;
 break;
-case 82:Qc=1;
+case 82:Kc=1;
 break;
-default:Kc=0;
-Lc=0;
-Mc=11;
+default:Gc=11;
 goto L12;
 }
-if(Xa!=0){
-Oc=1;
-Pc=Qc;
-goto L13;}
-Kc=0;
-Lc=0;
-Mc=11;
-goto L12;
-default:Kc=0;
-Lc=0;
-Mc=11;
+if(Ta==0){
+Gc=11;
+goto L12;}
+Ic=1;
+Jc=Kc;
+goto L13;
+default:Gc=11;
 goto L12;
 }}
-Oc=0;
-Pc=1;
-L13:Rc=b-Oc;
-if(Rc<16777217){
-Sc=(u64)(u8*)65536;
+Ic=0;
+Jc=1;
+L13:Lc=b-Ic;
+if(Lc<16777217){
+Mc=(u64)(u8*)65536;
+wp(p,(u8*)65536);
+z24(p+8);
+wp(p+32,(u8*)65536);
+z16(p+40);
+wp(p+56,(u8*)65536);
+z32(p+64);
+wp(p+96,(u8*)65536);
+z16(p+104);
+wp(p+120,(u8*)65536);
+z32(p+128);
+wp(p+160,(u8*)65536);
+z80(p+168);
+wp(p+248,(u8*)65536);
+z16(p+256);
+wp(p+272,(u8*)65536);
+z40(p+280);
+wp(p+320,(u8*)65536);
+z16(p+328);
+wp(p+344,(u8*)65536);
+z16(p+352);
+wp(p+368,(u8*)65536);
+z16(p+376);
+wp(p+392,(u8*)65536);
+z16(p+400);
+wp(p+416,(u8*)65536);
+z16(p+424);
+wp(p+440,(u8*)65536);
+z48(p+448);
+wp(p+496,(u8*)65536);
+z32(p+504);
+wp(p+536,(u8*)65536);
+z32(p+544);
+wp(p+576,(u8*)65536);
+z104(p+584);
+w8(p+688,Mc);
+z40(p+696);
+w8(p+736,Mc);
+z16(p+744);
+wp(p+760,(u8*)65536);
+z32(p+768);
+wp(p+800,(u8*)65536);
+z24(p+808);
+wp(p+832,(u8*)65536);
+z16(p+840);
+wp(p+856,(u8*)65536);
+z32(p+864);
+wp(p+896,(u8*)65536);
+z16(p+904);
+wp(p+920,(u8*)65536);
+z24(p+928);
+wp(p+952,(u8*)65536);
+z16(p+960);
+wp(p+976,(u8*)65536);
+z16(p+984);
+wp(p+1000,(u8*)65536);
+z40(p+1008);
+wp(p+1048,(u8*)65536);
+z16(p+1056);
+wp(p+1072,(u8*)65536);
+z16(p+1080);
+wp(p+1096,(u8*)65536);
+z16(p+1104);
+wp(p+1120,(u8*)65536);
+z16(p+1128);
+wp(p+1144,(u8*)65536);
+z16(p+1152);
+wp(p+1168,(u8*)65536);
+z48(p+1176);
+wp(p+1224,(u8*)65536);
+z32(p+1232);
+wp(p+1264,(u8*)65536);
+z40(p+1272);
+wp(p+1312,(u8*)65536);
+z32(p+1320);
+wp(p+1352,(u8*)65536);
+z16(p+1360);
+wp(p+1376,(u8*)65536);
+z48(p+1384);
+w8(p+1432,Mc);
+z40(p+1440);
+w8(p+1480,Mc);
+z16(p+1488);
+wp(p+1504,(u8*)65536);
+z32(p+1512);
+wp(p+1544,(u8*)65536);
+z32(p+1552);
+wp(p+1584,(u8*)65536);
+z16(p+1592);
+wp(p+1608,(u8*)65536);
+z16(p+1616);
+wp(p+1632,(u8*)65536);
+z16(p+1640);
 wp(q,(u8*)65536);
-z24(q+8);
-wp(q+32,(u8*)65536);
-z16(q+40);
-wp(q+56,(u8*)65536);
-z32(q+64);
-wp(q+96,(u8*)65536);
-z16(q+104);
-wp(q+120,(u8*)65536);
-z32(q+128);
-wp(q+160,(u8*)65536);
-z80(q+168);
-wp(q+248,(u8*)65536);
-z16(q+256);
-wp(q+272,(u8*)65536);
-z40(q+280);
-wp(q+320,(u8*)65536);
-z16(q+328);
-wp(q+344,(u8*)65536);
-z16(q+352);
-wp(q+368,(u8*)65536);
-z16(q+376);
-wp(q+392,(u8*)65536);
-z16(q+400);
-wp(q+416,(u8*)65536);
-z16(q+424);
-wp(q+440,(u8*)65536);
-z48(q+448);
-wp(q+496,(u8*)65536);
-z32(q+504);
-wp(q+536,(u8*)65536);
-z32(q+544);
-wp(q+576,(u8*)65536);
-z104(q+584);
-w8(q+688,Sc);
-z40(q+696);
-w8(q+736,Sc);
-z16(q+744);
-wp(q+760,(u8*)65536);
-z32(q+768);
-wp(q+800,(u8*)65536);
-z24(q+808);
-wp(q+832,(u8*)65536);
-z16(q+840);
-wp(q+856,(u8*)65536);
-z32(q+864);
-wp(q+896,(u8*)65536);
-z16(q+904);
-wp(q+920,(u8*)65536);
-z24(q+928);
-wp(q+952,(u8*)65536);
-z16(q+960);
-wp(q+976,(u8*)65536);
-z16(q+984);
-wp(q+1000,(u8*)65536);
-z40(q+1008);
-wp(q+1048,(u8*)65536);
-z16(q+1056);
-wp(q+1072,(u8*)65536);
-z16(q+1080);
-wp(q+1096,(u8*)65536);
-z16(q+1104);
-wp(q+1120,(u8*)65536);
-z16(q+1128);
-wp(q+1144,(u8*)65536);
-z16(q+1152);
-wp(q+1168,(u8*)65536);
-z48(q+1176);
-wp(q+1224,(u8*)65536);
-z32(q+1232);
-wp(q+1264,(u8*)65536);
-z40(q+1272);
-wp(q+1312,(u8*)65536);
-z32(q+1320);
-wp(q+1352,(u8*)65536);
-z16(q+1360);
-wp(q+1376,(u8*)65536);
-z48(q+1384);
-w8(q+1432,Sc);
-z40(q+1440);
-w8(q+1480,Sc);
-z16(q+1488);
-wp(q+1504,(u8*)65536);
-z32(q+1512);
-wp(q+1544,(u8*)65536);
-z32(q+1552);
-wp(q+1584,(u8*)65536);
-z16(q+1592);
-wp(q+1608,(u8*)65536);
-z16(q+1616);
-wp(q+1632,(u8*)65536);
-z16(q+1640);
-wp(r,(u8*)65536);
-w8(r+16,0);
-z12(p);
-w8(r+8,0);
-append_dd4(p,v,q,Pc,Pa+(i64)Oc,Rc,r);
-if(*p==0){
-Tc=r8(r+8);
-if(f<Tc){
-Uc=Tc;
-Vc=0;
-Wc=6;}
+z16(q+8);
+symbol_with_8c9(o,t,p,q,Jc,Ic,La+(i64)Ic,Lc,Ma,f);
+if(r8(q+16)!=0)port_rattle_dealloc(rp(q));
+Nc=rp(p+1544);
+Oc=rp(p+1584);
+Pc=r8(p+1600);
+Qc=rp(p+1608);
+Rc=r8(p+1624);
+Sc=rp(p+1632);
+Tc=r8(p+1648);
+Uc=r8(p+1560);
+memcpy(n,p,1544);
+drop_1dd(n);
+if(Uc!=0)port_rattle_dealloc(Nc);
+if(Pc!=0)port_rattle_dealloc(Oc);
+if(Rc!=0)port_rattle_dealloc(Qc);
+if(Tc!=0)port_rattle_dealloc(Sc);
+goto L14;}
+Gc=7;}
+L12:w4(o+12,Gc);
+L14:or_type_f0b(r,t,s,La,b,Ma,f,o);
+Vc=r8(r);
+Wc=r4(r+8);
+Xc=r4(r+12);}
 else{
-Xc=rp(r);
-if((u64)Qa-(u64)Xc<Tc){
-copy_bits_4f4(Xc,Qa,Tc);
-Uc=Tc;
-Vc=0;
-Wc=0;}
-else{
-memmove(Qa,Xc,Tc);
-Uc=Tc;
-Vc=0;
-Wc=0;}}}
-else{
-Yc=Oc;
-Zc=r4(p+8);
-switch(p[4]){
-case 0:Uc=0;
-Vc=uadd32(Yc,Zc);
-Wc=1;
-break;
-case 1:Uc=0;
-Vc=uadd32(Yc,Zc);
-Wc=2;
-break;
-case 2:Uc=0;
-Vc=uadd32(Yc,Zc);
-Wc=3;
-break;
-case 3:Uc=0;
-Vc=0;
-Wc=4;
-break;
-case 4:Uc=0;
-Vc=0;
-Wc=5;
-break;
-default:NEVER;
-}}
-if(r8(r+16)!=0)port_rattle_dealloc(rp(r));
-ad=rp(q+1544);
-bd=rp(q+1584);
-cd=r8(q+1600);
-dd=rp(q+1608);
-ed=r8(q+1624);
-fd=rp(q+1632);
-gd=r8(q+1648);
-hd=r8(q+1560);
-memcpy(o,q,1544);
-drop_1dd(o);
-if(hd!=0)port_rattle_dealloc(ad);
-if(cd!=0)port_rattle_dealloc(bd);
-if(ed!=0)port_rattle_dealloc(dd);
-if(gd!=0)port_rattle_dealloc(fd);
-Kc=Uc;
-Lc=Vc;
-Mc=Wc;}
-else{
-Kc=0;
-Lc=0;
-Mc=7;}}
-L12:w8(u,Kc);
-w4(u+8,Lc);
-w4(u+12,Mc);
-or_type_f0b(s,v,t,Pa,b,Qa,f,u);
-id=r8(s);
-jd=r4(s+8);
-kd=r4(s+12);}
-else{
-w4(w,c);
-w[4]=Ic;
-z3(w+5);
-w[8]=Jc;
-w[9]=Hc;
-w8(m,bb&0xfffffffefeffffffu);
+w4(u,c);
+u[4]=Ec;
+z3(u+5);
+u[8]=Fc;
+u[9]=Dc;
+w8(m,Xa&0xfffffffefeffffffu);
 z16(l);
+z16(i);
 zero_all(j+1480,176);
 z24(k);
-if(b<2){
-ld=0;
-md=0;
-nd=11;}
+if(b<2)Yc=11;
 else{
-od=*Pa==95;
+Zc=*La==95;
 if(b==2){
-if(!od){
-ld=0;
-md=0;
-nd=11;
-goto L14;}
-switch(Pa[1]){
-case 90:pd=0;
-qd=0;
-goto L15;
+if(!Zc){
+Yc=11;
+goto L15;}
+switch(La[1]){
+case 90:ad=0;
+bd=0;
+goto L16;
 case 82:break;
-default:ld=0;
-md=0;
-nd=11;
-goto L14;
+default:Yc=11;
+goto L15;
 }}
 else{
-if(!od){
-ld=0;
-md=0;
-nd=11;
-goto L14;}
-switch(Pa[1]){
-case 90:pd=0;
-qd=0;
-goto L15;
-case 82:break;
-case 95:switch(Pa[2]){
-case 90:sd=0;
-break;
-case 82:sd=1;
-break;
-default:ld=0;
-md=0;
-nd=11;
-goto L14;
-}
-if(Xa!=0){
-pd=1;
-qd=sd;
+if(!Zc){
+Yc=11;
 goto L15;}
-ld=0;
-md=0;
-nd=11;
-goto L14;
-default:ld=0;
-md=0;
-nd=11;
-goto L14;
+switch(La[1]){
+case 90:ad=0;
+bd=0;
+goto L16;
+case 82:break;
+case 95:switch(La[2]){
+case 90:cd=0;
+break;
+case 82:cd=1;
+break;
+default:Yc=11;
+goto L15;
+}
+if(Ta==0){
+Yc=11;
+goto L15;}
+ad=1;
+bd=cd;
+goto L16;
+default:Yc=11;
+goto L15;
 }}
-pd=0;
-qd=1;
-L15:td=b-pd;
-if(td<16777217){
-ud=(u64)(u8*)65536;
+ad=0;
+bd=1;
+L16:dd=b-ad;
+if(dd<16777217){
+ed=(u64)(u8*)65536;
 wp(j,(u8*)65536);
 z24(j+8);
 wp(j+32,(u8*)65536);
@@ -151708,9 +151950,9 @@ wp(j+536,(u8*)65536);
 z32(j+544);
 wp(j+576,(u8*)65536);
 z104(j+584);
-w8(j+688,ud);
+w8(j+688,ed);
 z40(j+696);
-w8(j+736,ud);
+w8(j+736,ed);
 z16(j+744);
 wp(j+760,(u8*)65536);
 z32(j+768);
@@ -151752,9 +151994,9 @@ wp(j+1352,(u8*)65536);
 z16(j+1360);
 wp(j+1376,(u8*)65536);
 z48(j+1384);
-w8(j+1432,ud);
+w8(j+1432,ed);
 z40(j+1440);
-w8(j+1480,ud);
+w8(j+1480,ed);
 z16(j+1488);
 wp(j+1504,(u8*)65536);
 z32(j+1512);
@@ -151767,1296 +152009,1109 @@ z16(j+1616);
 wp(j+1632,(u8*)65536);
 z16(j+1640);
 wp(k,(u8*)65536);
-w8(k+16,0);
-z12(i);
-w8(k+8,0);
-append_a0b_2(i,w,j,qd,Pa+(i64)pd,td,k);
-if(*i==0){
-vd=r8(k+8);
-if(f<vd){
-xd=vd;
-yd=0;
-zd=6;}
-else{
-Ad=rp(k);
-if((u64)Qa-(u64)Ad<vd){
-copy_bits_4f4(Ad,Qa,vd);
-xd=vd;
-yd=0;
-zd=0;}
-else{
-memmove(Qa,Ad,vd);
-xd=vd;
-yd=0;
-zd=0;}}}
-else{
-Bd=pd;
-Cd=r4(i+8);
-switch(i[4]){
-case 0:xd=0;
-yd=uadd32(Bd,Cd);
-zd=1;
-break;
-case 1:xd=0;
-yd=uadd32(Bd,Cd);
-zd=2;
-break;
-case 2:xd=0;
-yd=uadd32(Bd,Cd);
-zd=3;
-break;
-case 3:xd=0;
-yd=0;
-zd=4;
-break;
-case 4:xd=0;
-yd=0;
-zd=5;
-break;
-default:NEVER;
-}}
+z16(k+8);
+symbol_with_d8d(i,u,j,k,bd,ad,La+(i64)ad,dd,Ma,f);
 if(r8(k+16)!=0)port_rattle_dealloc(rp(k));
-Dd=rp(j+1544);
-Ed=rp(j+1584);
-Fd=r8(j+1600);
-Gd=rp(j+1608);
-Hd=r8(j+1624);
-Id=rp(j+1632);
-Jd=r8(j+1648);
-Kd=r8(j+1560);
+fd=rp(j+1544);
+gd=rp(j+1584);
+hd=r8(j+1600);
+id=rp(j+1608);
+jd=r8(j+1624);
+kd=rp(j+1632);
+ld=r8(j+1648);
+md=r8(j+1560);
 memcpy(h,j,1544);
 drop_1dd(h);
-if(Kd!=0)port_rattle_dealloc(Dd);
-if(Fd!=0)port_rattle_dealloc(Ed);
-if(Hd!=0)port_rattle_dealloc(Gd);
-if(Jd!=0)port_rattle_dealloc(Id);
-ld=xd;
-md=yd;
-nd=zd;}
-else{
-ld=0;
-md=0;
-nd=7;}}
-L14:w8(n,ld);
-w4(n+8,md);
-w4(n+12,nd);
-or_type_504(l,w,m,Pa,b,Qa,f,n);
-id=r8(l);
-jd=r4(l+8);
-kd=r4(l+12);}
-Dc=id;
-Ec=jd;
-Fc=kd;}}
-else{
-if(cb){
-w8(Ka,bb);
-z16(Ja);
-w8(La,0);
-z16(Ma);
-w8(Na,0);
-z16(Oa);
-Ld=Za;
-Md=b<2;
-if(Wa==0){
-w4(Na,c);
-Na[4]=Ld;
-z3(Na+5);
-if(Md){
-Nd=0;
-Od=0;
-Pd=11;}
-else{
-Qd=*Pa==95;
-if(b==2){
-if(!Qd){
-Nd=0;
-Od=0;
-Pd=11;
-goto L16;}
-switch(Pa[1]){
-case 90:Rd=0;
-Sd=0;
-goto L17;
-case 82:break;
-default:Nd=0;
-Od=0;
-Pd=11;
-goto L16;
-}}
-else{
-if(!Qd){
-Nd=0;
-Od=0;
-Pd=11;
-goto L16;}
-switch(Pa[1]){
-case 90:Rd=0;
-Sd=0;
-goto L17;
-case 82:break;
-case 95:switch(Pa[2]){
-case 90:Td=0;
-break;
-case 82:Td=1;
-break;
-default:Nd=0;
-Od=0;
-Pd=11;
-goto L16;
-}
-if(Xa!=0){
-Rd=1;
-Sd=Td;
+if(md!=0)port_rattle_dealloc(fd);
+if(hd!=0)port_rattle_dealloc(gd);
+if(jd!=0)port_rattle_dealloc(id);
+if(ld!=0)port_rattle_dealloc(kd);
 goto L17;}
-Nd=0;
-Od=0;
-Pd=11;
-goto L16;
-default:Nd=0;
-Od=0;
-Pd=11;
-goto L16;
+Yc=7;}
+L15:w4(i+12,Yc);
+L17:or_type_504(l,u,m,La,b,Ma,f,i);
+Vc=r8(l);
+Wc=r4(l+8);
+Xc=r4(l+12);}
+zc=Vc;
+Ac=Wc;
+Bc=Xc;}}
+else{
+if(Ya){
+w8(Ga,Xa);
+z16(Fa);
+w8(Ha,0);
+z16(Ia);
+w8(Ja,0);
+z16(Ka);
+nd=Va;
+od=b<2;
+if(Sa==0){
+w4(Ja,c);
+Ja[4]=nd;
+z3(Ja+5);
+if(od){
+pd=0;
+qd=0;
+sd=11;}
+else{
+td=*La==95;
+if(b==2){
+if(!td){
+pd=0;
+qd=0;
+sd=11;
+goto L18;}
+switch(La[1]){
+case 90:ud=0;
+vd=0;
+goto L19;
+case 82:break;
+default:pd=0;
+qd=0;
+sd=11;
+goto L18;
 }}
+else{
+if(!td){
+pd=0;
+qd=0;
+sd=11;
+goto L18;}
+switch(La[1]){
+case 90:ud=0;
+vd=0;
+goto L19;
+case 82:break;
+case 95:switch(La[2]){
+case 90:xd=0;
+break;
+case 82:xd=1;
+break;
+default:pd=0;
+qd=0;
+sd=11;
+goto L18;
+}
+if(Ta!=0){
+ud=1;
+vd=xd;
+goto L19;}
+pd=0;
+qd=0;
+sd=11;
+goto L18;
+default:pd=0;
+qd=0;
+sd=11;
+goto L18;
+}}
+ud=0;
+vd=1;
+L19:yd=b-ud;
+if(yd<16777217){
+zd=La+(i64)ud;
+short_once_3e7(qa,Ja,vd,zd,yd,Ma,f);
+if(*qa==1){
+pd=r8(qa+8);
+qd=r4(qa+16);
+sd=r4(qa+20);}
+else{
+z16(la+8);
+z16(ma);
+zero_all(na,1544);
+zero_all(oa,1544);
+zero_all(pa,1544);
+Ad=(u64)(u8*)65536;
+wp(ka,(u8*)65536);
+z24(ka+8);
+wp(ka+32,(u8*)65536);
+z16(ka+40);
+wp(ka+56,(u8*)65536);
+z32(ka+64);
+wp(ka+96,(u8*)65536);
+z16(ka+104);
+wp(ka+120,(u8*)65536);
+z32(ka+128);
+wp(ka+160,(u8*)65536);
+z80(ka+168);
+wp(ka+248,(u8*)65536);
+z16(ka+256);
+wp(ka+272,(u8*)65536);
+z40(ka+280);
+wp(ka+320,(u8*)65536);
+z16(ka+328);
+wp(ka+344,(u8*)65536);
+z16(ka+352);
+wp(ka+368,(u8*)65536);
+z16(ka+376);
+wp(ka+392,(u8*)65536);
+z16(ka+400);
+wp(ka+416,(u8*)65536);
+z16(ka+424);
+wp(ka+440,(u8*)65536);
+z48(ka+448);
+wp(ka+496,(u8*)65536);
+z32(ka+504);
+wp(ka+536,(u8*)65536);
+z32(ka+544);
+wp(ka+576,(u8*)65536);
+z104(ka+584);
+w8(ka+688,Ad);
+z40(ka+696);
+w8(ka+736,Ad);
+z16(ka+744);
+wp(ka+760,(u8*)65536);
+z32(ka+768);
+wp(ka+800,(u8*)65536);
+z24(ka+808);
+wp(ka+832,(u8*)65536);
+z16(ka+840);
+wp(ka+856,(u8*)65536);
+z32(ka+864);
+wp(ka+896,(u8*)65536);
+z16(ka+904);
+wp(ka+920,(u8*)65536);
+z24(ka+928);
+wp(ka+952,(u8*)65536);
+z16(ka+960);
+wp(ka+976,(u8*)65536);
+z16(ka+984);
+wp(ka+1000,(u8*)65536);
+z40(ka+1008);
+wp(ka+1048,(u8*)65536);
+z16(ka+1056);
+wp(ka+1072,(u8*)65536);
+z16(ka+1080);
+wp(ka+1096,(u8*)65536);
+z16(ka+1104);
+wp(ka+1120,(u8*)65536);
+z16(ka+1128);
+wp(ka+1144,(u8*)65536);
+z16(ka+1152);
+wp(ka+1168,(u8*)65536);
+z48(ka+1176);
+wp(ka+1224,(u8*)65536);
+z32(ka+1232);
+wp(ka+1264,(u8*)65536);
+z40(ka+1272);
+wp(ka+1312,(u8*)65536);
+z32(ka+1320);
+wp(ka+1352,(u8*)65536);
+z16(ka+1360);
+wp(ka+1376,(u8*)65536);
+z48(ka+1384);
+w8(ka+1432,Ad);
+z40(ka+1440);
+w8(ka+1480,Ad);
+z16(ka+1488);
+wp(ka+1504,(u8*)65536);
+z32(ka+1512);
+wp(la,(u8*)65536);
+z16(la+8);
+demangle_d37(ma,Ja,ka,vd,zd,yd,la);
+switch(*ma){
+case 0:Bd=rp(la);
+Cd=r8(la+8);
+if(f<Cd)Dd=6;
+else{
+if((u64)Ma-(u64)Bd<Cd){
+copy_bits_4f4(Bd,Ma,Cd);
+Dd=0;}
+else{
+memmove(Ma,Bd,Cd);
+Dd=0;}}
+if(r8(la+16)==0){
+Ed=na;
+Fd=Cd;
+Gd=0;
+Hd=Dd;
+goto L20;}
+Id=Bd;
+Jd=na;
+Kd=Cd;
+Ld=0;
+Md=Dd;
+break;
+case 1:if(r8(la+16)==0){
+Ed=oa;
+Fd=0;
+Gd=0;
+Hd=4;
+goto L20;}
+Id=rp(la);
+Jd=oa;
+Kd=0;
+Ld=0;
+Md=4;
+break;
+case 2:Nd=ud;
+Od=r4(ma+8);
+switch(ma[4]){
+case 0:Pd=uadd32(Nd,Od);
+Qd=1;
+break;
+case 1:Pd=uadd32(Nd,Od);
+Qd=2;
+break;
+case 2:Pd=uadd32(Nd,Od);
+Qd=3;
+break;
+case 3:Pd=0;
+Qd=4;
+break;
+case 4:Pd=0;
+Qd=5;
+break;
+default:NEVER;
+}
+if(r8(la+16)==0){
+Ed=pa;
+Fd=0;
+Gd=Pd;
+Hd=Qd;
+goto L20;}
+Id=rp(la);
+Jd=pa;
+Kd=0;
+Ld=Pd;
+Md=Qd;
+break;
+default:NEVER;
+}
+port_rattle_dealloc(Id);
+Ed=Jd;
+Fd=Kd;
+Gd=Ld;
+Hd=Md;
+L20:memcpy(Ed,ka,1544);
+drop_1dd(Ed);
+pd=Fd;
+qd=Gd;
+sd=Hd;}}
+else{
+pd=0;
+qd=0;
+sd=7;}}
+L18:w8(Ka,pd);
+w4(Ka+8,qd);
+w4(Ka+12,sd);
+or_type_43d(Fa,Ja,Ga,La,b,Ma,f,Ka);}
+else{
+w4(Ha,c);
+Ha[4]=nd;
+z3(Ha+5);
+if(od){
 Rd=0;
-Sd=1;
-L17:Ud=b-Rd;
-if(Ud<16777217){
-Vd=Pa+(i64)Rd;
-short_once_3e7(ua,Na,Sd,Vd,Ud,Qa,f);
-if(*ua==1){
-Nd=r8(ua+8);
-Od=r4(ua+16);
-Pd=r4(ua+20);}
+Sd=0;
+Td=11;}
 else{
-z16(pa+8);
-z16(qa);
-zero_all(ra,1544);
-zero_all(sa,1544);
-zero_all(ta,1544);
-Wd=(u64)(u8*)65536;
-wp(oa,(u8*)65536);
-z24(oa+8);
-wp(oa+32,(u8*)65536);
-z16(oa+40);
-wp(oa+56,(u8*)65536);
-z32(oa+64);
-wp(oa+96,(u8*)65536);
-z16(oa+104);
-wp(oa+120,(u8*)65536);
-z32(oa+128);
-wp(oa+160,(u8*)65536);
-z80(oa+168);
-wp(oa+248,(u8*)65536);
-z16(oa+256);
-wp(oa+272,(u8*)65536);
-z40(oa+280);
-wp(oa+320,(u8*)65536);
-z16(oa+328);
-wp(oa+344,(u8*)65536);
-z16(oa+352);
-wp(oa+368,(u8*)65536);
-z16(oa+376);
-wp(oa+392,(u8*)65536);
-z16(oa+400);
-wp(oa+416,(u8*)65536);
-z16(oa+424);
-wp(oa+440,(u8*)65536);
-z48(oa+448);
-wp(oa+496,(u8*)65536);
-z32(oa+504);
-wp(oa+536,(u8*)65536);
-z32(oa+544);
-wp(oa+576,(u8*)65536);
-z104(oa+584);
-w8(oa+688,Wd);
-z40(oa+696);
-w8(oa+736,Wd);
-z16(oa+744);
-wp(oa+760,(u8*)65536);
-z32(oa+768);
-wp(oa+800,(u8*)65536);
-z24(oa+808);
-wp(oa+832,(u8*)65536);
-z16(oa+840);
-wp(oa+856,(u8*)65536);
-z32(oa+864);
-wp(oa+896,(u8*)65536);
-z16(oa+904);
-wp(oa+920,(u8*)65536);
-z24(oa+928);
-wp(oa+952,(u8*)65536);
-z16(oa+960);
-wp(oa+976,(u8*)65536);
-z16(oa+984);
-wp(oa+1000,(u8*)65536);
-z40(oa+1008);
-wp(oa+1048,(u8*)65536);
-z16(oa+1056);
-wp(oa+1072,(u8*)65536);
-z16(oa+1080);
-wp(oa+1096,(u8*)65536);
-z16(oa+1104);
-wp(oa+1120,(u8*)65536);
-z16(oa+1128);
-wp(oa+1144,(u8*)65536);
-z16(oa+1152);
-wp(oa+1168,(u8*)65536);
-z48(oa+1176);
-wp(oa+1224,(u8*)65536);
-z32(oa+1232);
-wp(oa+1264,(u8*)65536);
-z40(oa+1272);
-wp(oa+1312,(u8*)65536);
-z32(oa+1320);
-wp(oa+1352,(u8*)65536);
-z16(oa+1360);
-wp(oa+1376,(u8*)65536);
-z48(oa+1384);
-w8(oa+1432,Wd);
-z40(oa+1440);
-w8(oa+1480,Wd);
-z16(oa+1488);
-wp(oa+1504,(u8*)65536);
-z32(oa+1512);
-wp(pa,(u8*)65536);
-z16(pa+8);
-demangle_d37(qa,Na,oa,Sd,Vd,Ud,pa);
-switch(*qa){
-case 0:Xd=rp(pa);
-Yd=r8(pa+8);
-if(f<Yd)Zd=6;
-else{
-if((u64)Qa-(u64)Xd<Yd){
-copy_bits_4f4(Xd,Qa,Yd);
-Zd=0;}
-else{
-memmove(Qa,Xd,Yd);
-Zd=0;}}
-if(r8(pa+16)==0){
-ae=ra;
-be=Yd;
-ce=0;
-de=Zd;
-goto L18;}
-ee=Xd;
-fe=ra;
-ge=Yd;
-he=0;
-ie=Zd;
-break;
-case 1:if(r8(pa+16)==0){
-ae=sa;
-be=0;
-ce=0;
-de=4;
-goto L18;}
-ee=rp(pa);
-fe=sa;
-ge=0;
-he=0;
-ie=4;
-break;
-case 2:je=Rd;
-ke=r4(qa+8);
-switch(qa[4]){
-case 0:le=uadd32(je,ke);
-me=1;
-break;
-case 1:le=uadd32(je,ke);
-me=2;
-break;
-case 2:le=uadd32(je,ke);
-me=3;
-break;
-case 3:le=0;
-me=4;
-break;
-case 4:le=0;
-me=5;
-break;
-default:NEVER;
-}
-if(r8(pa+16)==0){
-ae=ta;
-be=0;
-ce=le;
-de=me;
-goto L18;}
-ee=rp(pa);
-fe=ta;
-ge=0;
-he=le;
-ie=me;
-break;
-default:NEVER;
-}
-port_rattle_dealloc(ee);
-ae=fe;
-be=ge;
-ce=he;
-de=ie;
-L18:memcpy(ae,oa,1544);
-drop_1dd(ae);
-Nd=be;
-Od=ce;
-Pd=de;}}
-else{
-Nd=0;
-Od=0;
-Pd=7;}}
-L16:w8(Oa,Nd);
-w4(Oa+8,Od);
-w4(Oa+12,Pd);
-or_type_43d(Ja,Na,Ka,Pa,b,Qa,f,Oa);}
-else{
-w4(La,c);
-La[4]=Ld;
-z3(La+5);
-if(Md){
-ne=0;
-oe=0;
-pe=11;}
-else{
-qe=b==2;
-re=*Pa==95;
-if(qe){
-if(!re){
-ne=0;
-oe=0;
-pe=11;
-goto L19;}
-se=Pa[1];
-switch(se){
-case 90:te=se;
-ue=0;
-ve=0;
-goto L20;
-case 82:break;
-default:ne=0;
-oe=0;
-pe=11;
-goto L19;
-}}
-else{
-if(!re){
-ne=0;
-oe=0;
-pe=11;
-goto L19;}
-we=Pa[1];
-switch(we){
-case 90:te=we;
-ue=0;
-ve=0;
-goto L20;
-case 82:break;
-case 95:switch(Pa[2]){
-case 90:xe=0;
-break;
-case 82:xe=1;
-break;
-default:ne=0;
-oe=0;
-pe=11;
-goto L19;
-}
-if(Xa==0){
-ne=0;
-oe=0;
-pe=11;
-goto L19;}
-te=95;
-ue=1;
-ve=xe;
-goto L20;
-default:ne=0;
-oe=0;
-pe=11;
-goto L19;
-}}
-te=82;
-ue=0;
-ve=1;
-L20:ye=b-ue;
-if(ye<16777217){
-ze=Pa+(i64)ue;
-Ae=may_be_legacy_350(ze,ye);
-if(Ae){
-z16(Ea);
-if(qe){
-switch(te){
-case 90:Be=0;
-Ce=0;
-goto L21;
-case 82:break;
-default:De=11;
-Ee=0;
-Fe=0;
-goto L22;
-}}
-else{
-switch(te){
-case 90:Be=0;
-Ce=0;
-goto L21;
-case 82:break;
-case 95:switch(Pa[2]){
-case 90:Ge=0;
-break;
-case 82:Ge=1;
-break;
-default:De=11;
-Ee=0;
-Fe=0;
-goto L22;
-}
-if(Xa!=0){
-Be=1;
-Ce=Ge;
+Ud=b==2;
+Vd=*La==95;
+if(Ud){
+if(!Vd){
+Rd=0;
+Sd=0;
+Td=11;
 goto L21;}
-De=11;
-Ee=0;
-Fe=0;
+Wd=La[1];
+switch(Wd){
+case 90:Xd=Wd;
+Yd=0;
+Zd=0;
 goto L22;
+case 82:break;
+default:Rd=0;
+Sd=0;
+Td=11;
+goto L21;
+}}
+else{
+if(!Vd){
+Rd=0;
+Sd=0;
+Td=11;
+goto L21;}
+ae=La[1];
+switch(ae){
+case 90:Xd=ae;
+Yd=0;
+Zd=0;
+goto L22;
+case 82:break;
+case 95:switch(La[2]){
+case 90:be=0;
+break;
+case 82:be=1;
+break;
+default:Rd=0;
+Sd=0;
+Td=11;
+goto L21;
+}
+if(Ta==0){
+Rd=0;
+Sd=0;
+Td=11;
+goto L21;}
+Xd=95;
+Yd=1;
+Zd=be;
+goto L22;
+default:Rd=0;
+Sd=0;
+Td=11;
+goto L21;
+}}
+Xd=82;
+Yd=0;
+Zd=1;
+L22:ce=b-Yd;
+if(ce<16777217){
+de=La+(i64)Yd;
+ee=may_be_legacy_350(de,ce);
+if(ee){
+z16(Aa);
+if(Ud){
+switch(Xd){
+case 90:fe=0;
+ge=0;
+goto L23;
+case 82:break;
+default:he=11;
+ie=0;
+je=0;
+goto L24;
+}}
+else{
+switch(Xd){
+case 90:fe=0;
+ge=0;
+goto L23;
+case 82:break;
+case 95:switch(La[2]){
+case 90:ke=0;
+break;
+case 82:ke=1;
+break;
+default:he=11;
+ie=0;
+je=0;
+goto L24;
+}
+if(Ta!=0){
+fe=1;
+ge=ke;
+goto L23;}
+he=11;
+ie=0;
+je=0;
+goto L24;
 default:NEVER;
 }}
-Be=0;
-Ce=1;
-L21:He=b-Be;
-if(He<16777217){
-Ie=(u64)(u8*)65536;
-wp(Fa,(u8*)65536);
-z24(Fa+8);
-wp(Fa+32,(u8*)65536);
-z16(Fa+40);
-wp(Fa+56,(u8*)65536);
-z32(Fa+64);
-wp(Fa+96,(u8*)65536);
-z16(Fa+104);
-wp(Fa+120,(u8*)65536);
-z32(Fa+128);
-wp(Fa+160,(u8*)65536);
-z80(Fa+168);
-wp(Fa+248,(u8*)65536);
-z16(Fa+256);
-wp(Fa+272,(u8*)65536);
-z40(Fa+280);
-wp(Fa+320,(u8*)65536);
-z16(Fa+328);
-wp(Fa+344,(u8*)65536);
-z16(Fa+352);
-wp(Fa+368,(u8*)65536);
-z16(Fa+376);
-wp(Fa+392,(u8*)65536);
-z16(Fa+400);
-wp(Fa+416,(u8*)65536);
-z16(Fa+424);
-wp(Fa+440,(u8*)65536);
-z48(Fa+448);
-wp(Fa+496,(u8*)65536);
-z32(Fa+504);
-wp(Fa+536,(u8*)65536);
-z32(Fa+544);
-wp(Fa+576,(u8*)65536);
-z104(Fa+584);
-w8(Fa+688,Ie);
-z40(Fa+696);
-w8(Fa+736,Ie);
-z16(Fa+744);
-wp(Fa+760,(u8*)65536);
-z32(Fa+768);
-wp(Fa+800,(u8*)65536);
-z24(Fa+808);
-wp(Fa+832,(u8*)65536);
-z16(Fa+840);
-wp(Fa+856,(u8*)65536);
-z32(Fa+864);
-wp(Fa+896,(u8*)65536);
-z16(Fa+904);
-wp(Fa+920,(u8*)65536);
-z24(Fa+928);
-wp(Fa+952,(u8*)65536);
-z16(Fa+960);
-wp(Fa+976,(u8*)65536);
-z16(Fa+984);
-wp(Fa+1000,(u8*)65536);
-z40(Fa+1008);
-wp(Fa+1048,(u8*)65536);
-z16(Fa+1056);
-wp(Fa+1072,(u8*)65536);
-z16(Fa+1080);
-wp(Fa+1096,(u8*)65536);
-z16(Fa+1104);
-wp(Fa+1120,(u8*)65536);
-z16(Fa+1128);
-wp(Fa+1144,(u8*)65536);
-z16(Fa+1152);
-wp(Fa+1168,(u8*)65536);
-z48(Fa+1176);
-wp(Fa+1224,(u8*)65536);
-z32(Fa+1232);
-wp(Fa+1264,(u8*)65536);
-z40(Fa+1272);
-wp(Fa+1312,(u8*)65536);
-z32(Fa+1320);
-wp(Fa+1352,(u8*)65536);
-z16(Fa+1360);
-wp(Fa+1376,(u8*)65536);
-z48(Fa+1384);
-w8(Fa+1432,Ie);
-z40(Fa+1440);
-w8(Fa+1480,Ie);
-z16(Fa+1488);
-wp(Fa+1504,(u8*)65536);
-z32(Fa+1512);
-wp(Ga,(u8*)65536);
-z16(Ga+8);
-symbol_with_2a8(Ea,La,Fa,Ga,Ce,Be,Pa+(i64)Be,He,Qa,f);
-if(r8(Ga+16)!=0)port_rattle_dealloc(rp(Ga));
-memcpy(Ha,Fa,1544);
-drop_1dd(Ha);
-De=r4(Ea+12);
-Ee=r4(Ea+8);
-Fe=r8(Ea);}
+fe=0;
+ge=1;
+L23:le=b-fe;
+if(le<16777217){
+me=(u64)(u8*)65536;
+wp(Ba,(u8*)65536);
+z24(Ba+8);
+wp(Ba+32,(u8*)65536);
+z16(Ba+40);
+wp(Ba+56,(u8*)65536);
+z32(Ba+64);
+wp(Ba+96,(u8*)65536);
+z16(Ba+104);
+wp(Ba+120,(u8*)65536);
+z32(Ba+128);
+wp(Ba+160,(u8*)65536);
+z80(Ba+168);
+wp(Ba+248,(u8*)65536);
+z16(Ba+256);
+wp(Ba+272,(u8*)65536);
+z40(Ba+280);
+wp(Ba+320,(u8*)65536);
+z16(Ba+328);
+wp(Ba+344,(u8*)65536);
+z16(Ba+352);
+wp(Ba+368,(u8*)65536);
+z16(Ba+376);
+wp(Ba+392,(u8*)65536);
+z16(Ba+400);
+wp(Ba+416,(u8*)65536);
+z16(Ba+424);
+wp(Ba+440,(u8*)65536);
+z48(Ba+448);
+wp(Ba+496,(u8*)65536);
+z32(Ba+504);
+wp(Ba+536,(u8*)65536);
+z32(Ba+544);
+wp(Ba+576,(u8*)65536);
+z104(Ba+584);
+w8(Ba+688,me);
+z40(Ba+696);
+w8(Ba+736,me);
+z16(Ba+744);
+wp(Ba+760,(u8*)65536);
+z32(Ba+768);
+wp(Ba+800,(u8*)65536);
+z24(Ba+808);
+wp(Ba+832,(u8*)65536);
+z16(Ba+840);
+wp(Ba+856,(u8*)65536);
+z32(Ba+864);
+wp(Ba+896,(u8*)65536);
+z16(Ba+904);
+wp(Ba+920,(u8*)65536);
+z24(Ba+928);
+wp(Ba+952,(u8*)65536);
+z16(Ba+960);
+wp(Ba+976,(u8*)65536);
+z16(Ba+984);
+wp(Ba+1000,(u8*)65536);
+z40(Ba+1008);
+wp(Ba+1048,(u8*)65536);
+z16(Ba+1056);
+wp(Ba+1072,(u8*)65536);
+z16(Ba+1080);
+wp(Ba+1096,(u8*)65536);
+z16(Ba+1104);
+wp(Ba+1120,(u8*)65536);
+z16(Ba+1128);
+wp(Ba+1144,(u8*)65536);
+z16(Ba+1152);
+wp(Ba+1168,(u8*)65536);
+z48(Ba+1176);
+wp(Ba+1224,(u8*)65536);
+z32(Ba+1232);
+wp(Ba+1264,(u8*)65536);
+z40(Ba+1272);
+wp(Ba+1312,(u8*)65536);
+z32(Ba+1320);
+wp(Ba+1352,(u8*)65536);
+z16(Ba+1360);
+wp(Ba+1376,(u8*)65536);
+z48(Ba+1384);
+w8(Ba+1432,me);
+z40(Ba+1440);
+w8(Ba+1480,me);
+z16(Ba+1488);
+wp(Ba+1504,(u8*)65536);
+z32(Ba+1512);
+wp(Ca,(u8*)65536);
+z16(Ca+8);
+symbol_with_2a8(Aa,Ha,Ba,Ca,ge,fe,La+(i64)fe,le,Ma,f);
+if(r8(Ca+16)!=0)port_rattle_dealloc(rp(Ca));
+memcpy(Da,Ba,1544);
+drop_1dd(Da);
+he=r4(Aa+12);
+ie=r4(Aa+8);
+je=r8(Aa);}
 else{
-De=7;
-Ee=0;
-Fe=0;}
-L22:ne=Fe;
-oe=Ee;
-pe=De;}
+he=7;
+ie=0;
+je=0;}
+L24:Rd=je;
+Sd=ie;
+Td=he;}
 else{
-short_once_3e7(Ia,La,ve,ze,ye,Qa,f);
-if(*Ia==1){
-ne=r8(Ia+8);
-oe=r4(Ia+16);
-pe=r4(Ia+20);}
+short_once_3e7(Ea,Ha,Zd,de,ce,Ma,f);
+if(*Ea==1){
+Rd=r8(Ea+8);
+Sd=r4(Ea+16);
+Td=r4(Ea+20);}
 else{
-Je=ue;
-zero_all(Ba,1544);
-zero_all(Ca,1544);
-zero_all(Da,1544);
-Ke=(u64)(u8*)65536;
-wp(za,(u8*)65536);
-z24(za+8);
-wp(za+32,(u8*)65536);
-z16(za+40);
-wp(za+56,(u8*)65536);
-z32(za+64);
-wp(za+96,(u8*)65536);
-z16(za+104);
-wp(za+120,(u8*)65536);
-z32(za+128);
-wp(za+160,(u8*)65536);
-z80(za+168);
-wp(za+248,(u8*)65536);
-z16(za+256);
-wp(za+272,(u8*)65536);
-z40(za+280);
-wp(za+320,(u8*)65536);
-z16(za+328);
-wp(za+344,(u8*)65536);
-z16(za+352);
-wp(za+368,(u8*)65536);
-z16(za+376);
-wp(za+392,(u8*)65536);
-z16(za+400);
-wp(za+416,(u8*)65536);
-z16(za+424);
-wp(za+440,(u8*)65536);
-z48(za+448);
-wp(za+496,(u8*)65536);
-z32(za+504);
-wp(za+536,(u8*)65536);
-z32(za+544);
-wp(za+576,(u8*)65536);
-z104(za+584);
-w8(za+688,Ke);
-z40(za+696);
-w8(za+736,Ke);
-z16(za+744);
-wp(za+760,(u8*)65536);
-z32(za+768);
-wp(za+800,(u8*)65536);
-z24(za+808);
-wp(za+832,(u8*)65536);
-z16(za+840);
-wp(za+856,(u8*)65536);
-z32(za+864);
-wp(za+896,(u8*)65536);
-z16(za+904);
-wp(za+920,(u8*)65536);
-z24(za+928);
-wp(za+952,(u8*)65536);
-z16(za+960);
-wp(za+976,(u8*)65536);
-z16(za+984);
-wp(za+1000,(u8*)65536);
-z40(za+1008);
-wp(za+1048,(u8*)65536);
-z16(za+1056);
-wp(za+1072,(u8*)65536);
-z16(za+1080);
-wp(za+1096,(u8*)65536);
-z16(za+1104);
-wp(za+1120,(u8*)65536);
-z16(za+1128);
-wp(za+1144,(u8*)65536);
-z16(za+1152);
-wp(za+1168,(u8*)65536);
-z48(za+1176);
-wp(za+1224,(u8*)65536);
-z32(za+1232);
-wp(za+1264,(u8*)65536);
-z40(za+1272);
-wp(za+1312,(u8*)65536);
-z32(za+1320);
-wp(za+1352,(u8*)65536);
-z16(za+1360);
-wp(za+1376,(u8*)65536);
-z48(za+1384);
-w8(za+1432,Ke);
-z40(za+1440);
-w8(za+1480,Ke);
-z16(za+1488);
-wp(za+1504,(u8*)65536);
-z32(za+1512);
-wp(Aa,(u8*)65536);
-z16(Aa+8);
-z24(xa);
-z12(ya);
-path_of_ea7(xa,ze,ye);
-if(*xa==1){
-Le=r8(xa+8);
-Me=r8(xa+16);
-demangle_d37(va,La,za,ve,ze,ye,Aa);
-switch(*va){
-case 0:w8(Aa+8,0);
-Ne=va+4;
+ne=Yd;
+zero_all(xa,1544);
+zero_all(ya,1544);
+zero_all(za,1544);
+oe=(u64)(u8*)65536;
+wp(va,(u8*)65536);
+z24(va+8);
+wp(va+32,(u8*)65536);
+z16(va+40);
+wp(va+56,(u8*)65536);
+z32(va+64);
+wp(va+96,(u8*)65536);
+z16(va+104);
+wp(va+120,(u8*)65536);
+z32(va+128);
+wp(va+160,(u8*)65536);
+z80(va+168);
+wp(va+248,(u8*)65536);
+z16(va+256);
+wp(va+272,(u8*)65536);
+z40(va+280);
+wp(va+320,(u8*)65536);
+z16(va+328);
+wp(va+344,(u8*)65536);
+z16(va+352);
+wp(va+368,(u8*)65536);
+z16(va+376);
+wp(va+392,(u8*)65536);
+z16(va+400);
+wp(va+416,(u8*)65536);
+z16(va+424);
+wp(va+440,(u8*)65536);
+z48(va+448);
+wp(va+496,(u8*)65536);
+z32(va+504);
+wp(va+536,(u8*)65536);
+z32(va+544);
+wp(va+576,(u8*)65536);
+z104(va+584);
+w8(va+688,oe);
+z40(va+696);
+w8(va+736,oe);
+z16(va+744);
+wp(va+760,(u8*)65536);
+z32(va+768);
+wp(va+800,(u8*)65536);
+z24(va+808);
+wp(va+832,(u8*)65536);
+z16(va+840);
+wp(va+856,(u8*)65536);
+z32(va+864);
+wp(va+896,(u8*)65536);
+z16(va+904);
+wp(va+920,(u8*)65536);
+z24(va+928);
+wp(va+952,(u8*)65536);
+z16(va+960);
+wp(va+976,(u8*)65536);
+z16(va+984);
+wp(va+1000,(u8*)65536);
+z40(va+1008);
+wp(va+1048,(u8*)65536);
+z16(va+1056);
+wp(va+1072,(u8*)65536);
+z16(va+1080);
+wp(va+1096,(u8*)65536);
+z16(va+1104);
+wp(va+1120,(u8*)65536);
+z16(va+1128);
+wp(va+1144,(u8*)65536);
+z16(va+1152);
+wp(va+1168,(u8*)65536);
+z48(va+1176);
+wp(va+1224,(u8*)65536);
+z32(va+1232);
+wp(va+1264,(u8*)65536);
+z40(va+1272);
+wp(va+1312,(u8*)65536);
+z32(va+1320);
+wp(va+1352,(u8*)65536);
+z16(va+1360);
+wp(va+1376,(u8*)65536);
+z48(va+1384);
+w8(va+1432,oe);
+z40(va+1440);
+w8(va+1480,oe);
+z16(va+1488);
+wp(va+1504,(u8*)65536);
+z32(va+1512);
+wp(wa,(u8*)65536);
+z16(wa+8);
+z24(ta);
+z12(ua);
+path_of_ea7(ta,de,ce);
+if(*ta==1){
+pe=r8(ta+8);
+qe=r8(ta+16);
+demangle_d37(ra,Ha,va,Zd,de,ce,wa);
+switch(*ra){
+case 0:w8(wa+8,0);
+re=ra+4;
 break;
-case 1:Ne=va+4;
+case 1:re=ra+4;
 break;
-case 2:goto L23;
+case 2:goto L25;
 default:NEVER;
 }
-Oe=r4(Ne);
-Pe=r4(va+8);
-push_text_eb0(ya,ze,ye,Le,Me,r4(La),Aa);
-if(*ya==0){
-Qe=0;
-Re=Oe;
-Se=Pe;}
+se=r4(re);
+te=r4(ra+8);
+push_text_eb0(ua,de,ce,pe,qe,r4(Ha),wa);
+if(*ua==0){
+ue=0;
+ve=se;
+we=te;}
 else{
-Te=ya[4]==3;
-Qe=Te?1:2;
-Re=Te?Oe:4;
-Se=Te?Pe:0;}
-Ue=Qe;
-Ve=Re;
-We=Se;}
+xe=ua[4]==3;
+ue=xe?1:2;
+ve=xe?se:4;
+we=xe?te:0;}
+ye=ue;
+ze=ve;
+Ae=we;}
 else{
-demangle_d37(wa,La,za,ve,ze,ye,Aa);
-Ue=*wa;
-Ve=wa[4];
-We=r4(wa+8);}
-switch(Ue){
-case 0:Xe=rp(Aa);
-Ye=r8(Aa+8);
-if(f<Ye)Ze=6;
+demangle_d37(sa,Ha,va,Zd,de,ce,wa);
+ye=*sa;
+ze=sa[4];
+Ae=r4(sa+8);}
+switch(ye){
+case 0:Be=rp(wa);
+Ce=r8(wa+8);
+if(f<Ce)De=6;
 else{
-if((u64)Qa-(u64)Xe<Ye){
-copy_bits_4f4(Xe,Qa,Ye);
-Ze=0;}
+if((u64)Ma-(u64)Be<Ce){
+copy_bits_4f4(Be,Ma,Ce);
+De=0;}
 else{
-memmove(Qa,Xe,Ye);
-Ze=0;}}
-if(r8(Aa+16)==0){
-af=Ba;
-bf=Ye;
-cf=0;
-df=Ze;
-goto L24;}
-ef=Xe;
-ff=Ba;
-gf=Ye;
-hf=0;
-jf=Ze;
-goto L25;
-case 1:if(r8(Aa+16)==0){
-af=Ca;
-bf=0;
-cf=0;
-df=4;
-goto L24;}
-ef=rp(Aa);
-ff=Ca;
-gf=0;
-hf=0;
-jf=4;
-goto L25;
-case 2:switch(Ve){
-case 0:kf=uadd32(Je,We);
-lf=1;
-goto L26;
-case 1:kf=uadd32(Je,We);
-lf=2;
-goto L26;
-case 2:kf=uadd32(Je,We);
-lf=3;
-goto L26;
-case 3:kf=0;
-lf=4;
-goto L26;
+memmove(Ma,Be,Ce);
+De=0;}}
+if(r8(wa+16)==0){
+Ee=xa;
+Fe=Ce;
+Ge=0;
+He=De;
+goto L26;}
+Ie=Be;
+Je=xa;
+Ke=Ce;
+Le=0;
+Me=De;
+goto L27;
+case 1:if(r8(wa+16)==0){
+Ee=ya;
+Fe=0;
+Ge=0;
+He=4;
+goto L26;}
+Ie=rp(wa);
+Je=ya;
+Ke=0;
+Le=0;
+Me=4;
+goto L27;
+case 2:switch(ze){
+case 0:Ne=uadd32(ne,Ae);
+Oe=1;
+goto L28;
+case 1:Ne=uadd32(ne,Ae);
+Oe=2;
+goto L28;
+case 2:Ne=uadd32(ne,Ae);
+Oe=3;
+goto L28;
+case 3:Ne=0;
+Oe=4;
+goto L28;
 case 4:break;
 default:NEVER;
 }
 break;
 default:NEVER;
 }
-L23:kf=0;
-lf=5;
-L26:if(r8(Aa+16)==0){
-af=Da;
-bf=0;
-cf=kf;
-df=lf;
-goto L24;}
-ef=rp(Aa);
-ff=Da;
-gf=0;
-hf=kf;
-jf=lf;
-L25:port_rattle_dealloc(ef);
-af=ff;
-bf=gf;
-cf=hf;
-df=jf;
-L24:memcpy(af,za,1544);
-drop_1dd(af);
-ne=bf;
-oe=cf;
-pe=df;}}}
+L25:Ne=0;
+Oe=5;
+L28:if(r8(wa+16)==0){
+Ee=za;
+Fe=0;
+Ge=Ne;
+He=Oe;
+goto L26;}
+Ie=rp(wa);
+Je=za;
+Ke=0;
+Le=Ne;
+Me=Oe;
+L27:port_rattle_dealloc(Ie);
+Ee=Je;
+Fe=Ke;
+Ge=Le;
+He=Me;
+L26:memcpy(Ee,va,1544);
+drop_1dd(Ee);
+Rd=Fe;
+Sd=Ge;
+Td=He;}}}
 else{
-ne=0;
-oe=0;
-pe=7;}}
-L19:w8(Ma,ne);
-w4(Ma+8,oe);
-w4(Ma+12,pe);
-or_type_0d4(Ja,La,Ka,Pa,b,Qa,f,Ma);}
-Dc=r8(Ja);
-Ec=r4(Ja+8);
-Fc=r4(Ja+12);}
+Rd=0;
+Sd=0;
+Td=7;}}
+L21:w8(Ia,Rd);
+w4(Ia+8,Sd);
+w4(Ia+12,Td);
+or_type_0d4(Fa,Ha,Ga,La,b,Ma,f,Ia);}
+zc=r8(Fa);
+Ac=r4(Fa+8);
+Bc=r4(Fa+12);}
 else{
-mf=Ya>>16;
-nf=bb>>32;
-of=nf;
-z12(ma);
-z12(na);
-pf=Sa;
-if((u8)(nf&1)){
-w4(ma,c);
-ma[4]=pf;
-z3(ma+5);
-ma[8]=mf;
-ma[9]=of;
-w8(ka,bb);
-z16(ja);
-zero_all(ha+1480,176);
-z24(ia);
-if(b<2){
-qf=0;
-rf=0;
-sf=11;}
+Pe=Ua>>16;
+Qe=Xa>>32;
+Re=Qe;
+z12(ia);
+z12(ja);
+Se=Oa;
+if((u8)(Qe&1)){
+w4(ia,c);
+ia[4]=Se;
+z3(ia+5);
+ia[8]=Pe;
+ia[9]=Re;
+w8(ha,Xa);
+z16(ga);
+z16(da);
+zero_all(ea+1480,176);
+z24(fa);
+if(b<2)Te=11;
 else{
-tf=*Pa==95;
+Ue=*La==95;
 if(b==2){
-if(!tf){
-qf=0;
-rf=0;
-sf=11;
-goto L27;}
-switch(Pa[1]){
-case 90:uf=0;
-vf=0;
-goto L28;
-case 82:break;
-default:qf=0;
-rf=0;
-sf=11;
-goto L27;
-}}
-else{
-if(!tf){
-qf=0;
-rf=0;
-sf=11;
-goto L27;}
-switch(Pa[1]){
-case 90:uf=0;
-vf=0;
-goto L28;
-case 82:break;
-case 95:switch(Pa[2]){
-case 90:wf=0;
-break;
-case 82:wf=1;
-break;
-default:qf=0;
-rf=0;
-sf=11;
-goto L27;
-}
-if(Xa!=0){
-uf=1;
-vf=wf;
-goto L28;}
-qf=0;
-rf=0;
-sf=11;
-goto L27;
-default:qf=0;
-rf=0;
-sf=11;
-goto L27;
-}}
-uf=0;
-vf=1;
-L28:xf=b-uf;
-if(xf<16777217){
-yf=(u64)(u8*)65536;
-wp(ha,(u8*)65536);
-z24(ha+8);
-wp(ha+32,(u8*)65536);
-z16(ha+40);
-wp(ha+56,(u8*)65536);
-z32(ha+64);
-wp(ha+96,(u8*)65536);
-z16(ha+104);
-wp(ha+120,(u8*)65536);
-z32(ha+128);
-wp(ha+160,(u8*)65536);
-z80(ha+168);
-wp(ha+248,(u8*)65536);
-z16(ha+256);
-wp(ha+272,(u8*)65536);
-z40(ha+280);
-wp(ha+320,(u8*)65536);
-z16(ha+328);
-wp(ha+344,(u8*)65536);
-z16(ha+352);
-wp(ha+368,(u8*)65536);
-z16(ha+376);
-wp(ha+392,(u8*)65536);
-z16(ha+400);
-wp(ha+416,(u8*)65536);
-z16(ha+424);
-wp(ha+440,(u8*)65536);
-z48(ha+448);
-wp(ha+496,(u8*)65536);
-z32(ha+504);
-wp(ha+536,(u8*)65536);
-z32(ha+544);
-wp(ha+576,(u8*)65536);
-z104(ha+584);
-w8(ha+688,yf);
-z40(ha+696);
-w8(ha+736,yf);
-z16(ha+744);
-wp(ha+760,(u8*)65536);
-z32(ha+768);
-wp(ha+800,(u8*)65536);
-z24(ha+808);
-wp(ha+832,(u8*)65536);
-z16(ha+840);
-wp(ha+856,(u8*)65536);
-z32(ha+864);
-wp(ha+896,(u8*)65536);
-z16(ha+904);
-wp(ha+920,(u8*)65536);
-z24(ha+928);
-wp(ha+952,(u8*)65536);
-z16(ha+960);
-wp(ha+976,(u8*)65536);
-z16(ha+984);
-wp(ha+1000,(u8*)65536);
-z40(ha+1008);
-wp(ha+1048,(u8*)65536);
-z16(ha+1056);
-wp(ha+1072,(u8*)65536);
-z16(ha+1080);
-wp(ha+1096,(u8*)65536);
-z16(ha+1104);
-wp(ha+1120,(u8*)65536);
-z16(ha+1128);
-wp(ha+1144,(u8*)65536);
-z16(ha+1152);
-wp(ha+1168,(u8*)65536);
-z48(ha+1176);
-wp(ha+1224,(u8*)65536);
-z32(ha+1232);
-wp(ha+1264,(u8*)65536);
-z40(ha+1272);
-wp(ha+1312,(u8*)65536);
-z32(ha+1320);
-wp(ha+1352,(u8*)65536);
-z16(ha+1360);
-wp(ha+1376,(u8*)65536);
-z48(ha+1384);
-w8(ha+1432,yf);
-z40(ha+1440);
-w8(ha+1480,yf);
-z16(ha+1488);
-wp(ha+1504,(u8*)65536);
-z32(ha+1512);
-wp(ha+1544,(u8*)65536);
-z32(ha+1552);
-wp(ha+1584,(u8*)65536);
-z16(ha+1592);
-wp(ha+1608,(u8*)65536);
-z16(ha+1616);
-wp(ha+1632,(u8*)65536);
-z16(ha+1640);
-wp(ia,(u8*)65536);
-w8(ia+16,0);
-z12(ga);
-w8(ia+8,0);
-append_d61(ga,ma,ha,vf,Pa+(i64)uf,xf,ia);
-if(*ga==0){
-zf=r8(ia+8);
-if(f<zf){
-Af=zf;
-Bf=0;
-Cf=6;}
-else{
-Df=rp(ia);
-if((u64)Qa-(u64)Df<zf){
-copy_bits_4f4(Df,Qa,zf);
-Af=zf;
-Bf=0;
-Cf=0;}
-else{
-memmove(Qa,Df,zf);
-Af=zf;
-Bf=0;
-Cf=0;}}}
-else{
-Ef=uf;
-Ff=r4(ga+8);
-switch(ga[4]){
-case 0:Af=0;
-Bf=uadd32(Ef,Ff);
-Cf=1;
-break;
-case 1:Af=0;
-Bf=uadd32(Ef,Ff);
-Cf=2;
-break;
-case 2:Af=0;
-Bf=uadd32(Ef,Ff);
-Cf=3;
-break;
-case 3:Af=0;
-Bf=0;
-Cf=4;
-break;
-case 4:Af=0;
-Bf=0;
-Cf=5;
-break;
-default:NEVER;
-}}
-if(r8(ia+16)!=0)port_rattle_dealloc(rp(ia));
-Gf=rp(ha+1544);
-Hf=rp(ha+1584);
-If=r8(ha+1600);
-Jf=rp(ha+1608);
-Kf=r8(ha+1624);
-Lf=rp(ha+1632);
-Mf=r8(ha+1648);
-Nf=r8(ha+1560);
-memcpy(fa,ha,1544);
-drop_1dd(fa);
-if(Nf!=0)port_rattle_dealloc(Gf);
-if(If!=0)port_rattle_dealloc(Hf);
-if(Kf!=0)port_rattle_dealloc(Jf);
-if(Mf!=0)port_rattle_dealloc(Lf);
-qf=Af;
-rf=Bf;
-sf=Cf;}
-else{
-qf=0;
-rf=0;
-sf=7;}}
-L27:w8(la,qf);
-w4(la+8,rf);
-w4(la+12,sf);
-or_type_a12(ja,ma,ka,Pa,b,Qa,f,la);
-Of=r8(ja);
-Pf=r4(ja+8);
-Qf=r4(ja+12);}
-else{
-w4(na,c);
-na[4]=pf;
-z3(na+5);
-na[8]=mf;
-na[9]=of;
-w8(da,bb&0xfffffffeffffffffu);
-z16(ca);
-zero_all(aa+1480,176);
-z24(ba);
-if(b<2){
-Rf=0;
-Sf=0;
-Tf=11;}
-else{
-Uf=*Pa==95;
-if(b==2){
-if(!Uf){
-Rf=0;
-Sf=0;
-Tf=11;
+if(!Ue){
+Te=11;
 goto L29;}
-switch(Pa[1]){
-case 90:Vf=0;
-Wf=0;
+switch(La[1]){
+case 90:Ve=0;
+We=0;
 goto L30;
 case 82:break;
-default:Rf=0;
-Sf=0;
-Tf=11;
+default:Te=11;
 goto L29;
 }}
 else{
-if(!Uf){
-Rf=0;
-Sf=0;
-Tf=11;
+if(!Ue){
+Te=11;
 goto L29;}
-switch(Pa[1]){
-case 90:Vf=0;
-Wf=0;
+switch(La[1]){
+case 90:Ve=0;
+We=0;
 goto L30;
 case 82:break;
-case 95:switch(Pa[2]){
-case 90:Xf=0;
+case 95:switch(La[2]){
+case 90:Xe=0;
 break;
-case 82:Xf=1;
+case 82:Xe=1;
 break;
-default:Rf=0;
-Sf=0;
-Tf=11;
+default:Te=11;
 goto L29;
 }
-if(Xa!=0){
-Vf=1;
-Wf=Xf;
-goto L30;}
-Rf=0;
-Sf=0;
-Tf=11;
-goto L29;
-default:Rf=0;
-Sf=0;
-Tf=11;
+if(Ta==0){
+Te=11;
+goto L29;}
+Ve=1;
+We=Xe;
+goto L30;
+default:Te=11;
 goto L29;
 }}
-Vf=0;
-Wf=1;
-L30:Yf=b-Vf;
-if(Yf<16777217){
-Zf=(u64)(u8*)65536;
-wp(aa,(u8*)65536);
-z24(aa+8);
-wp(aa+32,(u8*)65536);
-z16(aa+40);
-wp(aa+56,(u8*)65536);
-z32(aa+64);
-wp(aa+96,(u8*)65536);
-z16(aa+104);
-wp(aa+120,(u8*)65536);
-z32(aa+128);
-wp(aa+160,(u8*)65536);
-z80(aa+168);
-wp(aa+248,(u8*)65536);
-z16(aa+256);
-wp(aa+272,(u8*)65536);
-z40(aa+280);
-wp(aa+320,(u8*)65536);
-z16(aa+328);
-wp(aa+344,(u8*)65536);
-z16(aa+352);
-wp(aa+368,(u8*)65536);
-z16(aa+376);
-wp(aa+392,(u8*)65536);
-z16(aa+400);
-wp(aa+416,(u8*)65536);
-z16(aa+424);
-wp(aa+440,(u8*)65536);
-z48(aa+448);
-wp(aa+496,(u8*)65536);
-z32(aa+504);
-wp(aa+536,(u8*)65536);
-z32(aa+544);
-wp(aa+576,(u8*)65536);
-z104(aa+584);
-w8(aa+688,Zf);
-z40(aa+696);
-w8(aa+736,Zf);
-z16(aa+744);
-wp(aa+760,(u8*)65536);
-z32(aa+768);
-wp(aa+800,(u8*)65536);
-z24(aa+808);
-wp(aa+832,(u8*)65536);
-z16(aa+840);
-wp(aa+856,(u8*)65536);
-z32(aa+864);
-wp(aa+896,(u8*)65536);
-z16(aa+904);
-wp(aa+920,(u8*)65536);
-z24(aa+928);
-wp(aa+952,(u8*)65536);
-z16(aa+960);
-wp(aa+976,(u8*)65536);
-z16(aa+984);
-wp(aa+1000,(u8*)65536);
-z40(aa+1008);
-wp(aa+1048,(u8*)65536);
-z16(aa+1056);
-wp(aa+1072,(u8*)65536);
-z16(aa+1080);
-wp(aa+1096,(u8*)65536);
-z16(aa+1104);
-wp(aa+1120,(u8*)65536);
-z16(aa+1128);
-wp(aa+1144,(u8*)65536);
-z16(aa+1152);
-wp(aa+1168,(u8*)65536);
-z48(aa+1176);
-wp(aa+1224,(u8*)65536);
-z32(aa+1232);
-wp(aa+1264,(u8*)65536);
-z40(aa+1272);
-wp(aa+1312,(u8*)65536);
-z32(aa+1320);
-wp(aa+1352,(u8*)65536);
-z16(aa+1360);
-wp(aa+1376,(u8*)65536);
-z48(aa+1384);
-w8(aa+1432,Zf);
-z40(aa+1440);
-w8(aa+1480,Zf);
-z16(aa+1488);
-wp(aa+1504,(u8*)65536);
-z32(aa+1512);
-wp(aa+1544,(u8*)65536);
-z32(aa+1552);
-wp(aa+1584,(u8*)65536);
-z16(aa+1592);
-wp(aa+1608,(u8*)65536);
-z16(aa+1616);
-wp(aa+1632,(u8*)65536);
-z16(aa+1640);
-wp(ba,(u8*)65536);
-w8(ba+16,0);
-z12(Z);
-w8(ba+8,0);
-append_018(Z,na,aa,Wf,Pa+(i64)Vf,Yf,ba);
-if(*Z==0){
-ag=r8(ba+8);
-if(f<ag){
-bg=ag;
-cg=0;
-dg=6;}
+Ve=0;
+We=1;
+L30:Ye=b-Ve;
+if(Ye<16777217){
+Ze=(u64)(u8*)65536;
+wp(ea,(u8*)65536);
+z24(ea+8);
+wp(ea+32,(u8*)65536);
+z16(ea+40);
+wp(ea+56,(u8*)65536);
+z32(ea+64);
+wp(ea+96,(u8*)65536);
+z16(ea+104);
+wp(ea+120,(u8*)65536);
+z32(ea+128);
+wp(ea+160,(u8*)65536);
+z80(ea+168);
+wp(ea+248,(u8*)65536);
+z16(ea+256);
+wp(ea+272,(u8*)65536);
+z40(ea+280);
+wp(ea+320,(u8*)65536);
+z16(ea+328);
+wp(ea+344,(u8*)65536);
+z16(ea+352);
+wp(ea+368,(u8*)65536);
+z16(ea+376);
+wp(ea+392,(u8*)65536);
+z16(ea+400);
+wp(ea+416,(u8*)65536);
+z16(ea+424);
+wp(ea+440,(u8*)65536);
+z48(ea+448);
+wp(ea+496,(u8*)65536);
+z32(ea+504);
+wp(ea+536,(u8*)65536);
+z32(ea+544);
+wp(ea+576,(u8*)65536);
+z104(ea+584);
+w8(ea+688,Ze);
+z40(ea+696);
+w8(ea+736,Ze);
+z16(ea+744);
+wp(ea+760,(u8*)65536);
+z32(ea+768);
+wp(ea+800,(u8*)65536);
+z24(ea+808);
+wp(ea+832,(u8*)65536);
+z16(ea+840);
+wp(ea+856,(u8*)65536);
+z32(ea+864);
+wp(ea+896,(u8*)65536);
+z16(ea+904);
+wp(ea+920,(u8*)65536);
+z24(ea+928);
+wp(ea+952,(u8*)65536);
+z16(ea+960);
+wp(ea+976,(u8*)65536);
+z16(ea+984);
+wp(ea+1000,(u8*)65536);
+z40(ea+1008);
+wp(ea+1048,(u8*)65536);
+z16(ea+1056);
+wp(ea+1072,(u8*)65536);
+z16(ea+1080);
+wp(ea+1096,(u8*)65536);
+z16(ea+1104);
+wp(ea+1120,(u8*)65536);
+z16(ea+1128);
+wp(ea+1144,(u8*)65536);
+z16(ea+1152);
+wp(ea+1168,(u8*)65536);
+z48(ea+1176);
+wp(ea+1224,(u8*)65536);
+z32(ea+1232);
+wp(ea+1264,(u8*)65536);
+z40(ea+1272);
+wp(ea+1312,(u8*)65536);
+z32(ea+1320);
+wp(ea+1352,(u8*)65536);
+z16(ea+1360);
+wp(ea+1376,(u8*)65536);
+z48(ea+1384);
+w8(ea+1432,Ze);
+z40(ea+1440);
+w8(ea+1480,Ze);
+z16(ea+1488);
+wp(ea+1504,(u8*)65536);
+z32(ea+1512);
+wp(ea+1544,(u8*)65536);
+z32(ea+1552);
+wp(ea+1584,(u8*)65536);
+z16(ea+1592);
+wp(ea+1608,(u8*)65536);
+z16(ea+1616);
+wp(ea+1632,(u8*)65536);
+z16(ea+1640);
+wp(fa,(u8*)65536);
+z16(fa+8);
+symbol_with_ad4(da,ia,ea,fa,We,Ve,La+(i64)Ve,Ye,Ma,f);
+if(r8(fa+16)!=0)port_rattle_dealloc(rp(fa));
+af=rp(ea+1544);
+bf=rp(ea+1584);
+cf=r8(ea+1600);
+df=rp(ea+1608);
+ef=r8(ea+1624);
+ff=rp(ea+1632);
+gf=r8(ea+1648);
+hf=r8(ea+1560);
+memcpy(ca,ea,1544);
+drop_1dd(ca);
+if(hf!=0)port_rattle_dealloc(af);
+if(cf!=0)port_rattle_dealloc(bf);
+if(ef!=0)port_rattle_dealloc(df);
+if(gf!=0)port_rattle_dealloc(ff);
+goto L31;}
+Te=7;}
+L29:w4(da+12,Te);
+L31:or_type_a12(ga,ia,ha,La,b,Ma,f,da);
+jf=r8(ga);
+kf=r4(ga+8);
+lf=r4(ga+12);}
 else{
-eg=rp(ba);
-if((u64)Qa-(u64)eg<ag){
-copy_bits_4f4(eg,Qa,ag);
-bg=ag;
-cg=0;
-dg=0;}
+w4(ja,c);
+ja[4]=Se;
+z3(ja+5);
+ja[8]=Pe;
+ja[9]=Re;
+w8(ba,Xa&0xfffffffeffffffffu);
+z16(aa);
+z16(X);
+zero_all(Y+1480,176);
+z24(Z);
+if(b<2)mf=11;
 else{
-memmove(Qa,eg,ag);
-bg=ag;
-cg=0;
-dg=0;}}}
-else{
-fg=Vf;
-gg=r4(Z+8);
-switch(Z[4]){
-case 0:bg=0;
-cg=uadd32(fg,gg);
-dg=1;
-break;
-case 1:bg=0;
-cg=uadd32(fg,gg);
-dg=2;
-break;
-case 2:bg=0;
-cg=uadd32(fg,gg);
-dg=3;
-break;
-case 3:bg=0;
-cg=0;
-dg=4;
-break;
-case 4:bg=0;
-cg=0;
-dg=5;
-break;
-default:NEVER;
+nf=*La==95;
+if(b==2){
+if(!nf){
+mf=11;
+goto L32;}
+switch(La[1]){
+case 90:of=0;
+pf=0;
+goto L33;
+case 82:break;
+default:mf=11;
+goto L32;
 }}
-if(r8(ba+16)!=0)port_rattle_dealloc(rp(ba));
-hg=rp(aa+1544);
-ig=rp(aa+1584);
-jg=r8(aa+1600);
-kg=rp(aa+1608);
-lg=r8(aa+1624);
-mg=rp(aa+1632);
-ng=r8(aa+1648);
-og=r8(aa+1560);
-memcpy(Y,aa,1544);
-drop_1dd(Y);
-if(og!=0)port_rattle_dealloc(hg);
-if(jg!=0)port_rattle_dealloc(ig);
-if(lg!=0)port_rattle_dealloc(kg);
-if(ng!=0)port_rattle_dealloc(mg);
-Rf=bg;
-Sf=cg;
-Tf=dg;}
 else{
-Rf=0;
-Sf=0;
-Tf=7;}}
-L29:w8(ea,Rf);
-w4(ea+8,Sf);
-w4(ea+12,Tf);
-or_type_9d2(ca,na,da,Pa,b,Qa,f,ea);
-Of=r8(ca);
-Pf=r4(ca+8);
-Qf=r4(ca+12);}
-Dc=Of;
-Ec=Pf;
-Fc=Qf;}}}
+if(!nf){
+mf=11;
+goto L32;}
+switch(La[1]){
+case 90:of=0;
+pf=0;
+goto L33;
+case 82:break;
+case 95:switch(La[2]){
+case 90:qf=0;
+break;
+case 82:qf=1;
+break;
+default:mf=11;
+goto L32;
+}
+if(Ta==0){
+mf=11;
+goto L32;}
+of=1;
+pf=qf;
+goto L33;
+default:mf=11;
+goto L32;
+}}
+of=0;
+pf=1;
+L33:rf=b-of;
+if(rf<16777217){
+sf=(u64)(u8*)65536;
+wp(Y,(u8*)65536);
+z24(Y+8);
+wp(Y+32,(u8*)65536);
+z16(Y+40);
+wp(Y+56,(u8*)65536);
+z32(Y+64);
+wp(Y+96,(u8*)65536);
+z16(Y+104);
+wp(Y+120,(u8*)65536);
+z32(Y+128);
+wp(Y+160,(u8*)65536);
+z80(Y+168);
+wp(Y+248,(u8*)65536);
+z16(Y+256);
+wp(Y+272,(u8*)65536);
+z40(Y+280);
+wp(Y+320,(u8*)65536);
+z16(Y+328);
+wp(Y+344,(u8*)65536);
+z16(Y+352);
+wp(Y+368,(u8*)65536);
+z16(Y+376);
+wp(Y+392,(u8*)65536);
+z16(Y+400);
+wp(Y+416,(u8*)65536);
+z16(Y+424);
+wp(Y+440,(u8*)65536);
+z48(Y+448);
+wp(Y+496,(u8*)65536);
+z32(Y+504);
+wp(Y+536,(u8*)65536);
+z32(Y+544);
+wp(Y+576,(u8*)65536);
+z104(Y+584);
+w8(Y+688,sf);
+z40(Y+696);
+w8(Y+736,sf);
+z16(Y+744);
+wp(Y+760,(u8*)65536);
+z32(Y+768);
+wp(Y+800,(u8*)65536);
+z24(Y+808);
+wp(Y+832,(u8*)65536);
+z16(Y+840);
+wp(Y+856,(u8*)65536);
+z32(Y+864);
+wp(Y+896,(u8*)65536);
+z16(Y+904);
+wp(Y+920,(u8*)65536);
+z24(Y+928);
+wp(Y+952,(u8*)65536);
+z16(Y+960);
+wp(Y+976,(u8*)65536);
+z16(Y+984);
+wp(Y+1000,(u8*)65536);
+z40(Y+1008);
+wp(Y+1048,(u8*)65536);
+z16(Y+1056);
+wp(Y+1072,(u8*)65536);
+z16(Y+1080);
+wp(Y+1096,(u8*)65536);
+z16(Y+1104);
+wp(Y+1120,(u8*)65536);
+z16(Y+1128);
+wp(Y+1144,(u8*)65536);
+z16(Y+1152);
+wp(Y+1168,(u8*)65536);
+z48(Y+1176);
+wp(Y+1224,(u8*)65536);
+z32(Y+1232);
+wp(Y+1264,(u8*)65536);
+z40(Y+1272);
+wp(Y+1312,(u8*)65536);
+z32(Y+1320);
+wp(Y+1352,(u8*)65536);
+z16(Y+1360);
+wp(Y+1376,(u8*)65536);
+z48(Y+1384);
+w8(Y+1432,sf);
+z40(Y+1440);
+w8(Y+1480,sf);
+z16(Y+1488);
+wp(Y+1504,(u8*)65536);
+z32(Y+1512);
+wp(Y+1544,(u8*)65536);
+z32(Y+1552);
+wp(Y+1584,(u8*)65536);
+z16(Y+1592);
+wp(Y+1608,(u8*)65536);
+z16(Y+1616);
+wp(Y+1632,(u8*)65536);
+z16(Y+1640);
+wp(Z,(u8*)65536);
+z16(Z+8);
+symbol_with_e80(X,ja,Y,Z,pf,of,La+(i64)of,rf,Ma,f);
+if(r8(Z+16)!=0)port_rattle_dealloc(rp(Z));
+tf=rp(Y+1544);
+uf=rp(Y+1584);
+vf=r8(Y+1600);
+wf=rp(Y+1608);
+xf=r8(Y+1624);
+yf=rp(Y+1632);
+zf=r8(Y+1648);
+Af=r8(Y+1560);
+memcpy(W,Y,1544);
+drop_1dd(W);
+if(Af!=0)port_rattle_dealloc(tf);
+if(vf!=0)port_rattle_dealloc(uf);
+if(xf!=0)port_rattle_dealloc(wf);
+if(zf!=0)port_rattle_dealloc(yf);
+goto L34;}
+mf=7;}
+L32:w4(X+12,mf);
+L34:or_type_9d2(aa,ja,ba,La,b,Ma,f,X);
+jf=r8(aa);
+kf=r4(aa+8);
+lf=r4(aa+12);}
+zc=jf;
+Ac=kf;
+Bc=lf;}}}
 else{
-Dc=0;
-Ec=0;
-Fc=8;}
-x8(g,Dc);
-x4(g+8,Ec);
-x4(g+12,Fc);
+zc=0;
+Ac=0;
+Bc=8;}
+x8(g,zc);
+x4(g+8,Ac);
+x4(g+12,Bc);
 return;
 }
 
 /* symdemangle_texts_of */
 static u32 symdemangle_texts_of(u8* a,u64 b,u8* c,u64 d,u32 e,u32 f,u8* g,u64 h,u8* i,u64 j)
 {
-A16 u8 k[1544],l[12],m[16],n[8],o[16],p[1656],q[24],r[12],s[16],t[8],u[16],v[1544],w[24],x[1544],y[8],z[12],A[1544],B[12],C[16],D[8],E[16],F[1656],G[24],H[16],I[16],J[8],K[16],L[1544],M[24],N[1544],O[8],P[12],Q[1544],R[12],S[16],T[8],U[16],V[1656],W[24],X[12],Y[16],Z[8],aa[16],ba[1544],ca[24],da[1544],ea[8],fa[12],ga[1544],ha[12],ia[16],ja[8],ka[16],la[1656],ma[24],na[16],oa[16],pa[8],qa[16],ra[1544],sa[24],ta[1544],ua[8],va[12];
-u8 *wa,*xa,*ya,*za,*Ya,*Za,*bb,*pb,*tb,*Ab,*Bb,*Db,*Rb,*Vb,*Yb,*Zb,*bc,*dc,*kc,*lc,*nc,*xc,*Ec,*Fc,*Hc,*Vc,*Zc,*cd,*dd,*fd,*hd,*od,*pd,*sd,*Hd,*Ld,*Sd,*Td,*Vd,*je,*ne,*qe,*re,*te,*ve,*Ce,*De,*Fe,*Pe,*We,*Xe,*Ze,*of,*sf,*vf,*wf,*yf,*Af;
-u32 Aa,Ca,Oa,eb,fb,hb,nb,ob,qb,sb,ub,Gb,Hb,Jb,Pb,Qb,Sb,Ub,Wb,pc,rc,wc,yc,Kc,Lc,Nc,Tc,Uc,Wc,Yc,ad,vd,xd,zd,Fd,Gd,Id,Kd,Md,Yd,Zd,be,he,ie,ke,me,oe,He,Je,Oe,Qe,cf,df,ff,mf,nf,pf,rf,tf;
-u64 Ba,Ha,Ia,Ja,La,Ma,Na,Pa,Sa,Va,Wa,Xa,ab,cb,db,kb,lb,mb,rb,vb,xb,yb,zb,Cb,Eb,Fb,Mb,Nb,Ob,Tb,Xb,ac,cc,ec,fc,hc,ic,jc,mc,oc,uc,vc,zc,Bc,Cc,Dc,Gc,Ic,Jc,Qc,Rc,Sc,Xc,bd,ed,gd,id,jd,ld,md,nd,qd,td,ud,Cd,Dd,Ed,Jd,Nd,Pd,Qd,Rd,Ud,Wd,Xd,ee,fe,ge,le,pe,se,ue,we,xe,ze,Ae,Be,Ee,Ge,Me,Ne,Re,Te,Ue,Ve,Ye,af,bf,jf,kf,lf,qf,uf,xf,zf,Bf,Cf;
-u8 Da,Ea,Fa,Ga,Ka,Qa,Ra,Ta,Ua,gb,ib,jb,wb,Ib,Kb,Lb,gc,qc,sc,tc,Ac,Mc,Oc,Pc,kd,yd,Ad,Bd,Od,ae,ce,de,ye,Ie,Ke,Le,Se,ef,gf,hf;
+A16 u8 k[1544],l[16],m[16],n[8],o[16],p[1656],q[24],r[12],s[16],t[8],u[16],v[1544],w[24],x[1544],y[8],z[12],A[1544],B[16],C[16],D[8],E[16],F[1656],G[24],H[16],I[16],J[8],K[16],L[1544],M[24],N[1544],O[8],P[12],Q[1544],R[16],S[16],T[8],U[16],V[1656],W[24],X[12],Y[16],Z[8],aa[16],ba[1544],ca[24],da[1544],ea[8],fa[12],ga[1544],ha[16],ia[16],ja[8],ka[16],la[1656],ma[24],na[16],oa[16],pa[8],qa[16],ra[1544],sa[24],ta[1544],ua[8],va[12];
+u8 *wa,*xa,*ya,*za,*Ya,*Za,*bb,*pb,*tb,*Ab,*Bb,*Db,*Nb,*Qb,*Rb,*Tb,*Vb,*cc,*dc,*fc,*pc,*wc,*xc,*zc,*Jc,*Mc,*Nc,*Pc,*Rc,*Yc,*Zc,*bd,*pd,*ud,*Cd,*Dd,*Fd,*Pd,*Sd,*Td,*Vd,*Xd,*ee,*fe,*he,*re,*ye,*ze,*Be,*Le,*Oe,*Pe,*Re,*Te;
+u32 Aa,Ca,Oa,eb,fb,hb,nb,ob,qb,sb,ub,Fb,Hb,Mb,Ob,hc,jc,oc,qc,Bc,Dc,Ic,Kc,ed,fd,hd,nd,od,qd,td,vd,Hd,Jd,Od,Qd,je,le,qe,se,De,Fe,Ke,Me;
+u64 Ba,Ha,Ia,Ja,La,Ma,Na,Pa,Sa,Va,Wa,Xa,ab,cb,db,kb,lb,mb,rb,vb,xb,yb,zb,Cb,Eb,Kb,Lb,Pb,Sb,Ub,Wb,Xb,Zb,ac,bc,ec,gc,mc,nc,rc,tc,uc,vc,yc,Ac,Gc,Hc,Lc,Oc,Qc,Sc,Tc,Vc,Wc,Xc,ad,cd,dd,kd,ld,md,sd,xd,zd,Ad,Bd,Ed,Gd,Md,Nd,Rd,Ud,Wd,Yd,Zd,be,ce,de,ge,ie,oe,pe,te,ve,we,xe,Ae,Ce,Ie,Je,Ne,Qe,Se,Ue,Ve;
+u8 Da,Ea,Fa,Ga,Ka,Qa,Ra,Ta,Ua,gb,ib,jb,wb,Gb,Ib,Jb,Yb,ic,kc,lc,sc,Cc,Ec,Fc,Uc,gd,id,jd,yd,Id,Kd,Ld,ae,ke,me,ne,ue,Ee,Ge,He;
 if(f<1024){
 if(j==d){
 wa=a+(i64)(u64)(a==0?4096:0);
@@ -153440,151 +153495,86 @@ Db=ya+(i64)yb;
 Eb=h-yb;
 w8(n,Ja);
 z16(m);
-if(Cb<2){
-Fb=0;
-Gb=0;
-Hb=11;}
+z16(l);
+if(Cb<2)Fb=11;
 else{
-Ib=*Bb==95;
+Gb=*Bb==95;
 if(Cb==2){
-if(!Ib){
-Fb=0;
-Gb=0;
-Hb=11;
+if(!Gb){
+Fb=11;
 goto L8;}
 switch(Bb[1]){
-case 90:Jb=0;
-Kb=0;
+case 90:Hb=0;
+Ib=0;
 goto L9;
 case 82:break;
-default:Fb=0;
-Gb=0;
-Hb=11;
+default:Fb=11;
 goto L8;
 }}
 else{
-if(!Ib){
-Fb=0;
-Gb=0;
-Hb=11;
+if(!Gb){
+Fb=11;
 goto L8;}
 switch(Bb[1]){
-case 90:Jb=0;
-Kb=0;
+case 90:Hb=0;
+Ib=0;
 goto L9;
 case 82:break;
 case 95:switch(Bb[2]){
-case 90:Lb=0;
+case 90:Jb=0;
 break;
-case 82:Lb=1;
+case 82:Jb=1;
 break;
-default:Fb=0;
-Gb=0;
-Hb=11;
+default:Fb=11;
 goto L8;
 }
-if(!wb){
-Jb=1;
-Kb=Lb;
-goto L9;}
-Fb=0;
-Gb=0;
-Hb=11;
-goto L8;
-default:Fb=0;
-Gb=0;
-Hb=11;
+if(wb){
+Fb=11;
+goto L8;}
+Hb=1;
+Ib=Jb;
+goto L9;
+default:Fb=11;
 goto L8;
 }}
-Jb=0;
-Kb=1;
-L9:Mb=Cb-Jb;
-if(Mb<16777217){
-z12(l);
-w8(q+8,0);
-append_a0b_2(l,z,p,Kb,Bb+(i64)Jb,Mb,q);
-if(*l==0){
-Nb=r8(q+8);
-if(Eb<Nb){
-Ob=Nb;
-Pb=0;
-Qb=6;}
-else{
-Rb=rp(q);
-if((u64)Db-(u64)Rb<Nb){
-copy_bits_4f4(Rb,Db,Nb);
-Ob=Nb;
-Pb=0;
-Qb=0;}
-else{
-memmove(Db,Rb,Nb);
-Ob=Nb;
-Pb=0;
-Qb=0;}}}
-else{
-Sb=r4(l+8);
-switch(l[4]){
-case 0:Ob=0;
-Pb=uadd32(Jb,Sb);
-Qb=1;
-break;
-case 1:Ob=0;
-Pb=uadd32(Jb,Sb);
-Qb=2;
-break;
-case 2:Ob=0;
-Pb=uadd32(Jb,Sb);
-Qb=3;
-break;
-case 3:Ob=0;
-Pb=0;
-Qb=4;
-break;
-case 4:Ob=0;
-Pb=0;
-Qb=5;
-break;
-default:NEVER;
-}}
-Fb=Ob;
-Gb=Pb;
-Hb=Qb;}
-else{
-Fb=0;
-Gb=0;
-Hb=7;}}
-L8:w8(o,Fb);
-w4(o+8,Gb);
-w4(o+12,Hb);
+Hb=0;
+Ib=1;
+L9:Kb=Cb-Hb;
+if(Kb<16777217){
+symbol_with_d8d(l,z,p,q,Ib,Hb,Bb+(i64)Hb,Kb,Db,Eb);
+goto L10;}
+Fb=7;}
+L8:w4(l+12,Fb);
+L10:memcpy(o,l,16);
 or_type_504(m,z,n,Bb,Cb,Db,Eb,o);
-Tb=r8(m);
-Ub=r4(m+12);
-Vb=za+(zb<<4);
-Wb=r4(m+8);
-x8(Vb,Tb);
-x4(Vb+8,Wb);
-x4(Vb+12,Ub);
-Xb=zb+1;
-if(Xb!=j){
+Lb=r8(m);
+Mb=r4(m+12);
+Nb=za+(zb<<4);
+Ob=r4(m+8);
+x8(Nb,Lb);
+x4(Nb+8,Ob);
+x4(Nb+12,Mb);
+Pb=zb+1;
+if(Pb!=j){
 xb=r8(Ab);
-yb=(Ub==0?Tb:0)+yb;
-zb=Xb;
+yb=(Mb==0?Lb:0)+yb;
+zb=Pb;
 goto L7;}
 if(r8(q+16)!=0)port_rattle_dealloc(rp(q));}
-Yb=rp(p+1544);
-Zb=rp(p+1584);
-ac=r8(p+1600);
-bc=rp(p+1608);
-cc=r8(p+1624);
-dc=rp(p+1632);
-ec=r8(p+1648);
-fc=r8(p+1560);
+Qb=rp(p+1544);
+Rb=rp(p+1584);
+Sb=r8(p+1600);
+Tb=rp(p+1608);
+Ub=r8(p+1624);
+Vb=rp(p+1632);
+Wb=r8(p+1648);
+Xb=r8(p+1560);
 memcpy(k,p,1544);
 drop_1dd(k);
-if(fc!=0)port_rattle_dealloc(Yb);
-if(ac!=0)port_rattle_dealloc(Zb);
-if(cc!=0)port_rattle_dealloc(bc);
-if(ec!=0)port_rattle_dealloc(dc);
+if(Xb!=0)port_rattle_dealloc(Qb);
+if(Sb!=0)port_rattle_dealloc(Rb);
+if(Ub!=0)port_rattle_dealloc(Tb);
+if(Wb!=0)port_rattle_dealloc(Vb);
 ;}
 Oa=0;}
 else{
@@ -153680,82 +153670,82 @@ z32(L+1512);
 wp(M,(u8*)65536);
 z16(M+8);
 if(!Ka){
-gc=Ga==0;
-hc=0;
-ic=0;
-jc=0;
-L10:kc=xa+(i64)(jc<<3);
-lc=wa+(i64)hc;
-mc=r8(kc)-hc;
-nc=ya+(i64)ic;
-oc=h-ic;
+Yb=Ga==0;
+Zb=0;
+ac=0;
+bc=0;
+L11:cc=xa+(i64)(bc<<3);
+dc=wa+(i64)Zb;
+ec=r8(cc)-Zb;
+fc=ya+(i64)ac;
+gc=h-ac;
 w8(J,Ja);
 z16(I);
 z16(H);
-if(mc<2)pc=11;
+if(ec<2)hc=11;
 else{
-qc=*lc==95;
-if(mc==2){
-if(!qc){
-pc=11;
-goto L11;}
-switch(lc[1]){
-case 90:rc=0;
-sc=0;
-goto L12;
+ic=*dc==95;
+if(ec==2){
+if(!ic){
+hc=11;
+goto L12;}
+switch(dc[1]){
+case 90:jc=0;
+kc=0;
+goto L13;
 case 82:break;
-default:pc=11;
-goto L11;
+default:hc=11;
+goto L12;
 }}
 else{
-if(!qc){
-pc=11;
-goto L11;}
-switch(lc[1]){
-case 90:rc=0;
-sc=0;
-goto L12;
+if(!ic){
+hc=11;
+goto L12;}
+switch(dc[1]){
+case 90:jc=0;
+kc=0;
+goto L13;
 case 82:break;
-case 95:switch(lc[2]){
-case 90:tc=0;
+case 95:switch(dc[2]){
+case 90:lc=0;
 break;
-case 82:tc=1;
+case 82:lc=1;
 break;
-default:pc=11;
-goto L11;
+default:hc=11;
+goto L12;
 }
-if(gc){
-pc=11;
-goto L11;}
-rc=1;
-sc=tc;
+if(Yb){
+hc=11;
+goto L12;}
+jc=1;
+kc=lc;
+goto L13;
+default:hc=11;
 goto L12;
-default:pc=11;
-goto L11;
 }}
-rc=0;
-sc=1;
-L12:uc=mc-rc;
-if(uc<16777217){
-symbol_with_be6(H,O,L,M,sc,rc,lc+(i64)rc,uc,nc,oc);
-goto L13;}
-pc=7;}
-L11:w4(H+12,pc);
-L13:memcpy(K,H,16);
-or_type_81e(I,O,J,lc,mc,nc,oc,K);
-vc=r8(I);
-wc=r4(I+12);
-xc=za+(jc<<4);
-yc=r4(I+8);
-x8(xc,vc);
-x4(xc+8,yc);
-x4(xc+12,wc);
-zc=jc+1;
-if(zc!=j){
-hc=r8(kc);
-ic=(wc==0?vc:0)+ic;
-jc=zc;
-goto L10;}
+jc=0;
+kc=1;
+L13:mc=ec-jc;
+if(mc<16777217){
+symbol_with_be6(H,O,L,M,kc,jc,dc+(i64)jc,mc,fc,gc);
+goto L14;}
+hc=7;}
+L12:w4(H+12,hc);
+L14:memcpy(K,H,16);
+or_type_81e(I,O,J,dc,ec,fc,gc,K);
+nc=r8(I);
+oc=r4(I+12);
+pc=za+(bc<<4);
+qc=r4(I+8);
+x8(pc,nc);
+x4(pc+8,qc);
+x4(pc+12,oc);
+rc=bc+1;
+if(rc!=j){
+Zb=r8(cc);
+ac=(oc==0?nc:0)+ac;
+bc=rc;
+goto L11;}
 if(r8(M+16)!=0)port_rattle_dealloc(rp(M));}
 memcpy(N,L,1544);
 drop_1dd(N);}
@@ -153857,162 +153847,97 @@ z16(F+1640);
 wp(G,(u8*)65536);
 z16(G+8);
 if(!Ka){
-Ac=Ga==0;
-Bc=0;
-Cc=0;
-Dc=0;
-L14:Ec=xa+(i64)(Dc<<3);
-Fc=wa+(i64)Bc;
-Gc=r8(Ec)-Bc;
-Hc=ya+(i64)Cc;
-Ic=h-Cc;
+sc=Ga==0;
+tc=0;
+uc=0;
+vc=0;
+L15:wc=xa+(i64)(vc<<3);
+xc=wa+(i64)tc;
+yc=r8(wc)-tc;
+zc=ya+(i64)uc;
+Ac=h-uc;
 w8(D,Ja);
 z16(C);
-if(Gc<2){
-Jc=0;
-Kc=0;
-Lc=11;}
+z16(B);
+if(yc<2)Bc=11;
 else{
-Mc=*Fc==95;
-if(Gc==2){
-if(!Mc){
-Jc=0;
-Kc=0;
-Lc=11;
-goto L15;}
-switch(Fc[1]){
-case 90:Nc=0;
-Oc=0;
-goto L16;
-case 82:break;
-default:Jc=0;
-Kc=0;
-Lc=11;
-goto L15;
-}}
-else{
-if(!Mc){
-Jc=0;
-Kc=0;
-Lc=11;
-goto L15;}
-switch(Fc[1]){
-case 90:Nc=0;
-Oc=0;
-goto L16;
-case 82:break;
-case 95:switch(Fc[2]){
-case 90:Pc=0;
-break;
-case 82:Pc=1;
-break;
-default:Jc=0;
-Kc=0;
-Lc=11;
-goto L15;
-}
-if(!Ac){
-Nc=1;
-Oc=Pc;
+Cc=*xc==95;
+if(yc==2){
+if(!Cc){
+Bc=11;
 goto L16;}
-Jc=0;
-Kc=0;
-Lc=11;
-goto L15;
-default:Jc=0;
-Kc=0;
-Lc=11;
-goto L15;
+switch(xc[1]){
+case 90:Dc=0;
+Ec=0;
+goto L17;
+case 82:break;
+default:Bc=11;
+goto L16;
 }}
-Nc=0;
-Oc=1;
-L16:Qc=Gc-Nc;
-if(Qc<16777217){
-z12(B);
-w8(G+8,0);
-append_dd4(B,P,F,Oc,Fc+(i64)Nc,Qc,G);
-if(*B==0){
-Rc=r8(G+8);
-if(Ic<Rc){
-Sc=Rc;
-Tc=0;
-Uc=6;}
 else{
-Vc=rp(G);
-if((u64)Hc-(u64)Vc<Rc){
-copy_bits_4f4(Vc,Hc,Rc);
-Sc=Rc;
-Tc=0;
-Uc=0;}
-else{
-memmove(Hc,Vc,Rc);
-Sc=Rc;
-Tc=0;
-Uc=0;}}}
-else{
-Wc=r4(B+8);
-switch(B[4]){
-case 0:Sc=0;
-Tc=uadd32(Nc,Wc);
-Uc=1;
+if(!Cc){
+Bc=11;
+goto L16;}
+switch(xc[1]){
+case 90:Dc=0;
+Ec=0;
+goto L17;
+case 82:break;
+case 95:switch(xc[2]){
+case 90:Fc=0;
 break;
-case 1:Sc=0;
-Tc=uadd32(Nc,Wc);
-Uc=2;
+case 82:Fc=1;
 break;
-case 2:Sc=0;
-Tc=uadd32(Nc,Wc);
-Uc=3;
-break;
-case 3:Sc=0;
-Tc=0;
-Uc=4;
-break;
-case 4:Sc=0;
-Tc=0;
-Uc=5;
-break;
-default:NEVER;
+default:Bc=11;
+goto L16;
+}
+if(sc){
+Bc=11;
+goto L16;}
+Dc=1;
+Ec=Fc;
+goto L17;
+default:Bc=11;
+goto L16;
 }}
-Jc=Sc;
-Kc=Tc;
-Lc=Uc;}
-else{
-Jc=0;
-Kc=0;
-Lc=7;}}
-L15:w8(E,Jc);
-w4(E+8,Kc);
-w4(E+12,Lc);
-or_type_f0b(C,P,D,Fc,Gc,Hc,Ic,E);
-Xc=r8(C);
-Yc=r4(C+12);
-Zc=za+(Dc<<4);
-ad=r4(C+8);
-x8(Zc,Xc);
-x4(Zc+8,ad);
-x4(Zc+12,Yc);
-bd=Dc+1;
-if(bd!=j){
-Bc=r8(Ec);
-Cc=(Yc==0?Xc:0)+Cc;
-Dc=bd;
-goto L14;}
+Dc=0;
+Ec=1;
+L17:Gc=yc-Dc;
+if(Gc<16777217){
+symbol_with_8c9(B,P,F,G,Ec,Dc,xc+(i64)Dc,Gc,zc,Ac);
+goto L18;}
+Bc=7;}
+L16:w4(B+12,Bc);
+L18:memcpy(E,B,16);
+or_type_f0b(C,P,D,xc,yc,zc,Ac,E);
+Hc=r8(C);
+Ic=r4(C+12);
+Jc=za+(vc<<4);
+Kc=r4(C+8);
+x8(Jc,Hc);
+x4(Jc+8,Kc);
+x4(Jc+12,Ic);
+Lc=vc+1;
+if(Lc!=j){
+tc=r8(wc);
+uc=(Ic==0?Hc:0)+uc;
+vc=Lc;
+goto L15;}
 if(r8(G+16)!=0)port_rattle_dealloc(rp(G));}
-cd=rp(F+1544);
-dd=rp(F+1584);
-ed=r8(F+1600);
-fd=rp(F+1608);
-gd=r8(F+1624);
-hd=rp(F+1632);
-id=r8(F+1648);
-jd=r8(F+1560);
+Mc=rp(F+1544);
+Nc=rp(F+1584);
+Oc=r8(F+1600);
+Pc=rp(F+1608);
+Qc=r8(F+1624);
+Rc=rp(F+1632);
+Sc=r8(F+1648);
+Tc=r8(F+1560);
 memcpy(A,F,1544);
 drop_1dd(A);
-if(jd!=0)port_rattle_dealloc(cd);
-if(ed!=0)port_rattle_dealloc(dd);
-if(gd!=0)port_rattle_dealloc(fd);
-if(id!=0)port_rattle_dealloc(hd);
+if(Tc!=0)port_rattle_dealloc(Mc);
+if(Oc!=0)port_rattle_dealloc(Nc);
+if(Qc!=0)port_rattle_dealloc(Pc);
+if(Sc!=0)port_rattle_dealloc(Rc);
 ;}
 Oa=0;}}
 else{
@@ -154109,147 +154034,147 @@ z32(ba+1512);
 wp(ca,(u8*)65536);
 z16(ca+8);
 if(!Ka){
-kd=Ga==0;
-ld=0;
-md=0;
-nd=0;
-L17:od=xa+(i64)(nd<<3);
-pd=wa+(i64)ld;
-qd=r8(od)-ld;
-sd=ya+(i64)md;
-td=h-md;
+Uc=Ga==0;
+Vc=0;
+Wc=0;
+Xc=0;
+L19:Yc=xa+(i64)(Xc<<3);
+Zc=wa+(i64)Vc;
+ad=r8(Yc)-Vc;
+bd=ya+(i64)Wc;
+cd=h-Wc;
 w8(Z,Ja);
 z16(Y);
-if(qd<2){
-ud=0;
-vd=0;
-xd=11;}
+if(ad<2){
+dd=0;
+ed=0;
+fd=11;}
 else{
-yd=*pd==95;
-if(qd==2){
-if(!yd){
-ud=0;
-vd=0;
-xd=11;
-goto L18;}
-switch(pd[1]){
-case 90:zd=0;
-Ad=0;
-goto L19;
+gd=*Zc==95;
+if(ad==2){
+if(!gd){
+dd=0;
+ed=0;
+fd=11;
+goto L20;}
+switch(Zc[1]){
+case 90:hd=0;
+id=0;
+goto L21;
 case 82:break;
-default:ud=0;
-vd=0;
-xd=11;
-goto L18;
+default:dd=0;
+ed=0;
+fd=11;
+goto L20;
 }}
 else{
-if(!yd){
-ud=0;
-vd=0;
-xd=11;
-goto L18;}
-switch(pd[1]){
-case 90:zd=0;
-Ad=0;
-goto L19;
+if(!gd){
+dd=0;
+ed=0;
+fd=11;
+goto L20;}
+switch(Zc[1]){
+case 90:hd=0;
+id=0;
+goto L21;
 case 82:break;
-case 95:switch(pd[2]){
-case 90:Bd=0;
+case 95:switch(Zc[2]){
+case 90:jd=0;
 break;
-case 82:Bd=1;
+case 82:jd=1;
 break;
-default:ud=0;
-vd=0;
-xd=11;
-goto L18;
+default:dd=0;
+ed=0;
+fd=11;
+goto L20;
 }
-if(!kd){
-zd=1;
-Ad=Bd;
-goto L19;}
-ud=0;
-vd=0;
-xd=11;
-goto L18;
-default:ud=0;
-vd=0;
-xd=11;
-goto L18;
+if(!Uc){
+hd=1;
+id=jd;
+goto L21;}
+dd=0;
+ed=0;
+fd=11;
+goto L20;
+default:dd=0;
+ed=0;
+fd=11;
+goto L20;
 }}
-zd=0;
-Ad=1;
-L19:Cd=qd-zd;
-if(Cd<16777217){
+hd=0;
+id=1;
+L21:kd=ad-hd;
+if(kd<16777217){
 z12(X);
 w8(ca+8,0);
-append_a0b(X,ea,ba,Ad,pd+(i64)zd,Cd,ca);
+append_a0b(X,ea,ba,id,Zc+(i64)hd,kd,ca);
 if(*X==0){
-Dd=r8(ca+8);
-if(td<Dd){
-Ed=Dd;
-Fd=0;
-Gd=6;}
+ld=r8(ca+8);
+if(cd<ld){
+md=ld;
+nd=0;
+od=6;}
 else{
-Hd=rp(ca);
-if((u64)sd-(u64)Hd<Dd){
-copy_bits_4f4(Hd,sd,Dd);
-Ed=Dd;
-Fd=0;
-Gd=0;}
+pd=rp(ca);
+if((u64)bd-(u64)pd<ld){
+copy_bits_4f4(pd,bd,ld);
+md=ld;
+nd=0;
+od=0;}
 else{
-memmove(sd,Hd,Dd);
-Ed=Dd;
-Fd=0;
-Gd=0;}}}
+memmove(bd,pd,ld);
+md=ld;
+nd=0;
+od=0;}}}
 else{
-Id=r4(X+8);
+qd=r4(X+8);
 switch(X[4]){
-case 0:Ed=0;
-Fd=uadd32(zd,Id);
-Gd=1;
+case 0:md=0;
+nd=uadd32(hd,qd);
+od=1;
 break;
-case 1:Ed=0;
-Fd=uadd32(zd,Id);
-Gd=2;
+case 1:md=0;
+nd=uadd32(hd,qd);
+od=2;
 break;
-case 2:Ed=0;
-Fd=uadd32(zd,Id);
-Gd=3;
+case 2:md=0;
+nd=uadd32(hd,qd);
+od=3;
 break;
-case 3:Ed=0;
-Fd=0;
-Gd=4;
+case 3:md=0;
+nd=0;
+od=4;
 break;
-case 4:Ed=0;
-Fd=0;
-Gd=5;
+case 4:md=0;
+nd=0;
+od=5;
 break;
 default:NEVER;
 }}
-ud=Ed;
-vd=Fd;
-xd=Gd;}
+dd=md;
+ed=nd;
+fd=od;}
 else{
-ud=0;
-vd=0;
-xd=7;}}
-L18:w8(aa,ud);
-w4(aa+8,vd);
-w4(aa+12,xd);
-or_type_43d(Y,ea,Z,pd,qd,sd,td,aa);
-Jd=r8(Y);
-Kd=r4(Y+12);
-Ld=za+(nd<<4);
-Md=r4(Y+8);
-x8(Ld,Jd);
-x4(Ld+8,Md);
-x4(Ld+12,Kd);
-Nd=nd+1;
-if(Nd!=j){
-ld=r8(od);
-md=(Kd==0?Jd:0)+md;
-nd=Nd;
-goto L17;}
+dd=0;
+ed=0;
+fd=7;}}
+L20:w8(aa,dd);
+w4(aa+8,ed);
+w4(aa+12,fd);
+or_type_43d(Y,ea,Z,Zc,ad,bd,cd,aa);
+sd=r8(Y);
+td=r4(Y+12);
+ud=za+(Xc<<4);
+vd=r4(Y+8);
+x8(ud,sd);
+x4(ud+8,vd);
+x4(ud+12,td);
+xd=Xc+1;
+if(xd!=j){
+Vc=r8(Yc);
+Wc=(td==0?sd:0)+Wc;
+Xc=xd;
+goto L19;}
 if(r8(ca+16)!=0)port_rattle_dealloc(rp(ca));}
 memcpy(da,ba,1544);
 drop_1dd(da);}
@@ -154351,162 +154276,97 @@ z16(V+1640);
 wp(W,(u8*)65536);
 z16(W+8);
 if(!Ka){
-Od=Ga==0;
-Pd=0;
-Qd=0;
-Rd=0;
-L20:Sd=xa+(i64)(Rd<<3);
-Td=wa+(i64)Pd;
-Ud=r8(Sd)-Pd;
-Vd=ya+(i64)Qd;
-Wd=h-Qd;
+yd=Ga==0;
+zd=0;
+Ad=0;
+Bd=0;
+L22:Cd=xa+(i64)(Bd<<3);
+Dd=wa+(i64)zd;
+Ed=r8(Cd)-zd;
+Fd=ya+(i64)Ad;
+Gd=h-Ad;
 w8(T,Ja);
 z16(S);
-if(Ud<2){
-Xd=0;
-Yd=0;
-Zd=11;}
+z16(R);
+if(Ed<2)Hd=11;
 else{
-ae=*Td==95;
-if(Ud==2){
-if(!ae){
-Xd=0;
-Yd=0;
-Zd=11;
-goto L21;}
-switch(Td[1]){
-case 90:be=0;
-ce=0;
-goto L22;
+Id=*Dd==95;
+if(Ed==2){
+if(!Id){
+Hd=11;
+goto L23;}
+switch(Dd[1]){
+case 90:Jd=0;
+Kd=0;
+goto L24;
 case 82:break;
-default:Xd=0;
-Yd=0;
-Zd=11;
-goto L21;
+default:Hd=11;
+goto L23;
 }}
 else{
-if(!ae){
-Xd=0;
-Yd=0;
-Zd=11;
-goto L21;}
-switch(Td[1]){
-case 90:be=0;
-ce=0;
-goto L22;
+if(!Id){
+Hd=11;
+goto L23;}
+switch(Dd[1]){
+case 90:Jd=0;
+Kd=0;
+goto L24;
 case 82:break;
-case 95:switch(Td[2]){
-case 90:de=0;
+case 95:switch(Dd[2]){
+case 90:Ld=0;
 break;
-case 82:de=1;
+case 82:Ld=1;
 break;
-default:Xd=0;
-Yd=0;
-Zd=11;
-goto L21;
+default:Hd=11;
+goto L23;
 }
-if(!Od){
-be=1;
-ce=de;
+if(yd){
+Hd=11;
+goto L23;}
+Jd=1;
+Kd=Ld;
+goto L24;
+default:Hd=11;
+goto L23;
+}}
+Jd=0;
+Kd=1;
+L24:Md=Ed-Jd;
+if(Md<16777217){
+symbol_with_e80(R,fa,V,W,Kd,Jd,Dd+(i64)Jd,Md,Fd,Gd);
+goto L25;}
+Hd=7;}
+L23:w4(R+12,Hd);
+L25:memcpy(U,R,16);
+or_type_9d2(S,fa,T,Dd,Ed,Fd,Gd,U);
+Nd=r8(S);
+Od=r4(S+12);
+Pd=za+(Bd<<4);
+Qd=r4(S+8);
+x8(Pd,Nd);
+x4(Pd+8,Qd);
+x4(Pd+12,Od);
+Rd=Bd+1;
+if(Rd!=j){
+zd=r8(Cd);
+Ad=(Od==0?Nd:0)+Ad;
+Bd=Rd;
 goto L22;}
-Xd=0;
-Yd=0;
-Zd=11;
-goto L21;
-default:Xd=0;
-Yd=0;
-Zd=11;
-goto L21;
-}}
-be=0;
-ce=1;
-L22:ee=Ud-be;
-if(ee<16777217){
-z12(R);
-w8(W+8,0);
-append_018(R,fa,V,ce,Td+(i64)be,ee,W);
-if(*R==0){
-fe=r8(W+8);
-if(Wd<fe){
-ge=fe;
-he=0;
-ie=6;}
-else{
-je=rp(W);
-if((u64)Vd-(u64)je<fe){
-copy_bits_4f4(je,Vd,fe);
-ge=fe;
-he=0;
-ie=0;}
-else{
-memmove(Vd,je,fe);
-ge=fe;
-he=0;
-ie=0;}}}
-else{
-ke=r4(R+8);
-switch(R[4]){
-case 0:ge=0;
-he=uadd32(be,ke);
-ie=1;
-break;
-case 1:ge=0;
-he=uadd32(be,ke);
-ie=2;
-break;
-case 2:ge=0;
-he=uadd32(be,ke);
-ie=3;
-break;
-case 3:ge=0;
-he=0;
-ie=4;
-break;
-case 4:ge=0;
-he=0;
-ie=5;
-break;
-default:NEVER;
-}}
-Xd=ge;
-Yd=he;
-Zd=ie;}
-else{
-Xd=0;
-Yd=0;
-Zd=7;}}
-L21:w8(U,Xd);
-w4(U+8,Yd);
-w4(U+12,Zd);
-or_type_9d2(S,fa,T,Td,Ud,Vd,Wd,U);
-le=r8(S);
-me=r4(S+12);
-ne=za+(Rd<<4);
-oe=r4(S+8);
-x8(ne,le);
-x4(ne+8,oe);
-x4(ne+12,me);
-pe=Rd+1;
-if(pe!=j){
-Pd=r8(Sd);
-Qd=(me==0?le:0)+Qd;
-Rd=pe;
-goto L20;}
 if(r8(W+16)!=0)port_rattle_dealloc(rp(W));}
-qe=rp(V+1544);
-re=rp(V+1584);
-se=r8(V+1600);
-te=rp(V+1608);
-ue=r8(V+1624);
-ve=rp(V+1632);
-we=r8(V+1648);
-xe=r8(V+1560);
+Sd=rp(V+1544);
+Td=rp(V+1584);
+Ud=r8(V+1600);
+Vd=rp(V+1608);
+Wd=r8(V+1624);
+Xd=rp(V+1632);
+Yd=r8(V+1648);
+Zd=r8(V+1560);
 memcpy(Q,V,1544);
 drop_1dd(Q);
-if(xe!=0)port_rattle_dealloc(qe);
-if(se!=0)port_rattle_dealloc(re);
-if(ue!=0)port_rattle_dealloc(te);
-if(we!=0)port_rattle_dealloc(ve);
+if(Zd!=0)port_rattle_dealloc(Sd);
+if(Ud!=0)port_rattle_dealloc(Td);
+if(Wd!=0)port_rattle_dealloc(Vd);
+if(Yd!=0)port_rattle_dealloc(Xd);
 ;}
 Oa=0;}
 else{
@@ -154602,82 +154462,82 @@ z32(ra+1512);
 wp(sa,(u8*)65536);
 z16(sa+8);
 if(!Ka){
-ye=Ga==0;
-ze=0;
-Ae=0;
-Be=0;
-L23:Ce=xa+(i64)(Be<<3);
-De=wa+(i64)ze;
-Ee=r8(Ce)-ze;
-Fe=ya+(i64)Ae;
-Ge=h-Ae;
+ae=Ga==0;
+be=0;
+ce=0;
+de=0;
+L26:ee=xa+(i64)(de<<3);
+fe=wa+(i64)be;
+ge=r8(ee)-be;
+he=ya+(i64)ce;
+ie=h-ce;
 w8(pa,Ja);
 z16(oa);
 z16(na);
-if(Ee<2)He=11;
+if(ge<2)je=11;
 else{
-Ie=*De==95;
-if(Ee==2){
-if(!Ie){
-He=11;
-goto L24;}
-switch(De[1]){
-case 90:Je=0;
-Ke=0;
-goto L25;
+ke=*fe==95;
+if(ge==2){
+if(!ke){
+je=11;
+goto L27;}
+switch(fe[1]){
+case 90:le=0;
+me=0;
+goto L28;
 case 82:break;
-default:He=11;
-goto L24;
+default:je=11;
+goto L27;
 }}
 else{
-if(!Ie){
-He=11;
-goto L24;}
-switch(De[1]){
-case 90:Je=0;
-Ke=0;
-goto L25;
+if(!ke){
+je=11;
+goto L27;}
+switch(fe[1]){
+case 90:le=0;
+me=0;
+goto L28;
 case 82:break;
-case 95:switch(De[2]){
-case 90:Le=0;
+case 95:switch(fe[2]){
+case 90:ne=0;
 break;
-case 82:Le=1;
+case 82:ne=1;
 break;
-default:He=11;
-goto L24;
+default:je=11;
+goto L27;
 }
-if(ye){
-He=11;
-goto L24;}
-Je=1;
-Ke=Le;
-goto L25;
-default:He=11;
-goto L24;
+if(ae){
+je=11;
+goto L27;}
+le=1;
+me=ne;
+goto L28;
+default:je=11;
+goto L27;
 }}
-Je=0;
-Ke=1;
-L25:Me=Ee-Je;
-if(Me<16777217){
-symbol_with_2a8(na,ua,ra,sa,Ke,Je,De+(i64)Je,Me,Fe,Ge);
+le=0;
+me=1;
+L28:oe=ge-le;
+if(oe<16777217){
+symbol_with_2a8(na,ua,ra,sa,me,le,fe+(i64)le,oe,he,ie);
+goto L29;}
+je=7;}
+L27:w4(na+12,je);
+L29:memcpy(qa,na,16);
+or_type_0d4(oa,ua,pa,fe,ge,he,ie,qa);
+pe=r8(oa);
+qe=r4(oa+12);
+re=za+(de<<4);
+se=r4(oa+8);
+x8(re,pe);
+x4(re+8,se);
+x4(re+12,qe);
+te=de+1;
+if(te!=j){
+be=r8(ee);
+ce=(qe==0?pe:0)+ce;
+de=te;
 goto L26;}
-He=7;}
-L24:w4(na+12,He);
-L26:memcpy(qa,na,16);
-or_type_0d4(oa,ua,pa,De,Ee,Fe,Ge,qa);
-Ne=r8(oa);
-Oe=r4(oa+12);
-Pe=za+(Be<<4);
-Qe=r4(oa+8);
-x8(Pe,Ne);
-x4(Pe+8,Qe);
-x4(Pe+12,Oe);
-Re=Be+1;
-if(Re!=j){
-ze=r8(Ce);
-Ae=(Oe==0?Ne:0)+Ae;
-Be=Re;
-goto L23;}
 if(r8(sa+16)!=0)port_rattle_dealloc(rp(sa));}
 memcpy(ta,ra,1544);
 drop_1dd(ta);}
@@ -154779,162 +154639,97 @@ z16(la+1640);
 wp(ma,(u8*)65536);
 z16(ma+8);
 if(!Ka){
-Se=Ga==0;
-Te=0;
-Ue=0;
-Ve=0;
-L27:We=xa+(i64)(Ve<<3);
-Xe=wa+(i64)Te;
-Ye=r8(We)-Te;
-Ze=ya+(i64)Ue;
-af=h-Ue;
+ue=Ga==0;
+ve=0;
+we=0;
+xe=0;
+L30:ye=xa+(i64)(xe<<3);
+ze=wa+(i64)ve;
+Ae=r8(ye)-ve;
+Be=ya+(i64)we;
+Ce=h-we;
 w8(ja,Ja);
 z16(ia);
-if(Ye<2){
-bf=0;
-cf=0;
-df=11;}
+z16(ha);
+if(Ae<2)De=11;
 else{
-ef=*Xe==95;
-if(Ye==2){
-if(!ef){
-bf=0;
-cf=0;
-df=11;
-goto L28;}
-switch(Xe[1]){
-case 90:ff=0;
-gf=0;
-goto L29;
+Ee=*ze==95;
+if(Ae==2){
+if(!Ee){
+De=11;
+goto L31;}
+switch(ze[1]){
+case 90:Fe=0;
+Ge=0;
+goto L32;
 case 82:break;
-default:bf=0;
-cf=0;
-df=11;
-goto L28;
+default:De=11;
+goto L31;
 }}
 else{
-if(!ef){
-bf=0;
-cf=0;
-df=11;
-goto L28;}
-switch(Xe[1]){
-case 90:ff=0;
-gf=0;
-goto L29;
+if(!Ee){
+De=11;
+goto L31;}
+switch(ze[1]){
+case 90:Fe=0;
+Ge=0;
+goto L32;
 case 82:break;
-case 95:switch(Xe[2]){
-case 90:hf=0;
+case 95:switch(ze[2]){
+case 90:He=0;
 break;
-case 82:hf=1;
+case 82:He=1;
 break;
-default:bf=0;
-cf=0;
-df=11;
-goto L28;
+default:De=11;
+goto L31;
 }
-if(!Se){
-ff=1;
-gf=hf;
-goto L29;}
-bf=0;
-cf=0;
-df=11;
-goto L28;
-default:bf=0;
-cf=0;
-df=11;
-goto L28;
+if(ue){
+De=11;
+goto L31;}
+Fe=1;
+Ge=He;
+goto L32;
+default:De=11;
+goto L31;
 }}
-ff=0;
-gf=1;
-L29:jf=Ye-ff;
-if(jf<16777217){
-z12(ha);
-w8(ma+8,0);
-append_d61(ha,va,la,gf,Xe+(i64)ff,jf,ma);
-if(*ha==0){
-kf=r8(ma+8);
-if(af<kf){
-lf=kf;
-mf=0;
-nf=6;}
-else{
-of=rp(ma);
-if((u64)Ze-(u64)of<kf){
-copy_bits_4f4(of,Ze,kf);
-lf=kf;
-mf=0;
-nf=0;}
-else{
-memmove(Ze,of,kf);
-lf=kf;
-mf=0;
-nf=0;}}}
-else{
-pf=r4(ha+8);
-switch(ha[4]){
-case 0:lf=0;
-mf=uadd32(ff,pf);
-nf=1;
-break;
-case 1:lf=0;
-mf=uadd32(ff,pf);
-nf=2;
-break;
-case 2:lf=0;
-mf=uadd32(ff,pf);
-nf=3;
-break;
-case 3:lf=0;
-mf=0;
-nf=4;
-break;
-case 4:lf=0;
-mf=0;
-nf=5;
-break;
-default:NEVER;
-}}
-bf=lf;
-cf=mf;
-df=nf;}
-else{
-bf=0;
-cf=0;
-df=7;}}
-L28:w8(ka,bf);
-w4(ka+8,cf);
-w4(ka+12,df);
-or_type_a12(ia,va,ja,Xe,Ye,Ze,af,ka);
-qf=r8(ia);
-rf=r4(ia+12);
-sf=za+(Ve<<4);
-tf=r4(ia+8);
-x8(sf,qf);
-x4(sf+8,tf);
-x4(sf+12,rf);
-uf=Ve+1;
-if(uf!=j){
-Te=r8(We);
-Ue=(rf==0?qf:0)+Ue;
-Ve=uf;
-goto L27;}
+Fe=0;
+Ge=1;
+L32:Ie=Ae-Fe;
+if(Ie<16777217){
+symbol_with_ad4(ha,va,la,ma,Ge,Fe,ze+(i64)Fe,Ie,Be,Ce);
+goto L33;}
+De=7;}
+L31:w4(ha+12,De);
+L33:memcpy(ka,ha,16);
+or_type_a12(ia,va,ja,ze,Ae,Be,Ce,ka);
+Je=r8(ia);
+Ke=r4(ia+12);
+Le=za+(xe<<4);
+Me=r4(ia+8);
+x8(Le,Je);
+x4(Le+8,Me);
+x4(Le+12,Ke);
+Ne=xe+1;
+if(Ne!=j){
+ve=r8(ye);
+we=(Ke==0?Je:0)+we;
+xe=Ne;
+goto L30;}
 if(r8(ma+16)!=0)port_rattle_dealloc(rp(ma));}
-vf=rp(la+1544);
-wf=rp(la+1584);
-xf=r8(la+1600);
-yf=rp(la+1608);
-zf=r8(la+1624);
-Af=rp(la+1632);
-Bf=r8(la+1648);
-Cf=r8(la+1560);
+Oe=rp(la+1544);
+Pe=rp(la+1584);
+Qe=r8(la+1600);
+Re=rp(la+1608);
+Se=r8(la+1624);
+Te=rp(la+1632);
+Ue=r8(la+1648);
+Ve=r8(la+1560);
 memcpy(ga,la,1544);
 drop_1dd(ga);
-if(Cf!=0)port_rattle_dealloc(vf);
-if(xf!=0)port_rattle_dealloc(wf);
-if(zf!=0)port_rattle_dealloc(yf);
-if(Bf!=0)port_rattle_dealloc(Af);
+if(Ve!=0)port_rattle_dealloc(Oe);
+if(Qe!=0)port_rattle_dealloc(Pe);
+if(Se!=0)port_rattle_dealloc(Re);
+if(Ue!=0)port_rattle_dealloc(Te);
 ;}
 Oa=0;}}}
 else Oa=10;}

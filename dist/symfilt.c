@@ -2834,8 +2834,7 @@ static void append_named_70e(u8* a,u8* b,u8* c,u8 d,u8* e,u64 f,u64 g,u64 h,u8* 
 static s_8_8 write_120(u8* a,u8* b,u8* c);
 static void drop_816(u8* a);
 static void drop_f4c(u8* a);
-static u8 rewrite_43c(u8* a,u8* b,u8 c,u8* d,u64 e,u64 f,u8* g);
-static u8 rewrite_8ff(u8* a,u8* b,u64 c,u8* d);
+static u8 rewrite_or_remove_1ed(u8* a,u8* b,u8 c,u8* d,u64 e,u64 f,u8* g);
 static void read_661(u8* a,u8* b,u64 c);
 static u64 inlines_size_fb0(u8* a,u64 b,u8* c,u64 d);
 static void change_at_a46(u8* a,u8* b,u64 c,u8* d,u64 e);
@@ -2846,7 +2845,6 @@ static s_8_64 append_constructor_c34(u8* a,u8* b,u64 c,u8* d);
 static COLD u8 grow_amortized_f8b(u8* a);
 static u64 without_defaults_014(u8* a,u8* b,u8* c,u64 d);
 static void turn_through_room_153(u8* a,u64 b,u64 c,u64 d);
-static void append_3f1(u8* a,u8* b,u8* c,u8 d,u8* e,u64 f,u8* g);
 static void demangle_3c5(u8* a,u8* b,u8* c,u8 d,u8* e,u64 f,u8* g);
 static void demangle_686(u8* a,u8* b,u8* c,u8 d,u8* e,u64 f,u8* g);
 static void read_on_afe(u8* a,u8* b,u8* c,u64 d);
@@ -2871,7 +2869,6 @@ static void finish_unseen_87d(u8* a,u8* b,u8* c,u64 d,u8* e,u8* f);
 static void begin_apart_c9a(u8* a,u8* b,u8* c,u64 d,u8* e,u64 f,u8* g,u8* h);
 static void append_6a1(u8* a,u8* b,u8* c,u8 d,u8* e,u64 f,u8* g);
 static void append_named_795(u8* a,u8* b,u8* c,u8 d,u8* e,u64 f,u64 g,u64 h,u8* i);
-static void append_55b(u8* a,u8* b,u8* c,u8 d,u8* e,u64 f,u8* g);
 static void demangle_45e(u8* a,u8* b,u8 c,u32 d,u8* e,u64 f,u8* g);
 static void press_cpp_a22(u8* a,u8* b);
 static void firsts_after_8f2(u8* a,u8* b,u8* c,u32 d);
@@ -36339,11 +36336,11 @@ return E;
 static s_8_8 answer_symbols_e88(u8* a,u8* b,u64 c,u8* d,u8* e)
 {
 A16 u8 f[16],g[16],h[1544],i[48],j[1544],k[1544],l[1544],m[1544],n[1544],o[16],p[16],q[1544],r[48],s[1544],t[1544],u[1544],v[1544],w[1544],x[1544],y[1544],z[1544],A[1544],B[1544],C[12],D[16],E[12],F[12],G[1656],H[48],I[12],J[16],K[1544],L[48],M[1544],N[1544],O[1544],P[1544],Q[1544],R[8],S[12],T[1544],U[1544],V[1544],W[1544],X[1544],Y[12],Z[16],aa[12],ba[12],ca[1656],da[48],ea[12],fa[16],ga[1544],ha[48],ia[1544],ja[1544],ka[1544],la[1544],ma[1544],na[8],oa[12],pa[1544],qa[1544],ra[1544],sa[1544],ta[1544],ua[12],va[16],wa[12],xa[12],ya[1656],za[48],Aa[12],Ba[16],Ca[1544],Da[48],Ea[1544],Fa[1544],Ga[1544],Ha[1544],Ia[1544],Ja[8],Ka[12],La[1544],Ma[1544],Na[1544],Oa[1544],Pa[1544],Qa[12],Ra[16],Sa[12],Ta[12],Ua[1656],Va[48],Wa[12],Xa[16],Ya[1544],Za[48],ab[1544],bb[1544],cb[1544],db[1544],eb[1544],fb[8],gb[12];
-u32 hb,Xc,Yc,Zc,id,jd,Nf,Of,Pf,Yf,Zf,jg,bj,cj,dj,mj,nj,Ml,Nl,Ol,Xl,Yl,im,Dn,Wn,Co,Vo;
-u8 ib,jb,kb,lb,mb,nb,pb,qb,xb,zb,Cb,Eb,Fb,Gb,Hb,Ib,Jb,Kb,Lb,Ob,Pb,Ub,Yb,ec,kc,oc,pc,qc,sc,uc,vc,xc,yc,zc,Bc,Ec,Fc,Gc,Hc,Jc,Kc,Rc,Tc,ad,cd,ed,fd,gd,hd,kd,ld,md,nd,od,qd,vd,xd,yd,Ad,Jd,Kd,Ld,Vd,ge,pe,ye,ze,Be,Ce,Je,Le,Oe,Qe,Re,Se,Te,Ue,Ve,We,Xe,Ze,df,ef,ff,hf,kf,lf,nf,of,pf,rf,uf,vf,wf,xf,zf,Af,Hf,Jf,Qf,Sf,Uf,Vf,Wf,Xf,ag,bg,cg,dg,eg,hg,ig,lg,pg,qg,rg,tg,Cg,Dg,Eg,Og,Zg,ih,rh,th,uh,Bh,Dh,Gh,Ih,Jh,Kh,Lh,Mh,Nh,Oh,Ph,Sh,Th,Yh,ci,ii,oi,si,ti,ui,wi,yi,zi,Bi,Ci,Di,Fi,Ii,Ji,Ki,Li,Ni,Oi,Vi,Xi,ej,gj,ij,jj,kj,lj,oj,pj,qj,rj,sj,uj,yj,zj,Aj,Cj,Lj,Mj,Nj,Xj,ik,rk,Bk,Ck,Jk,Lk,Ok,Qk,Rk,Sk,Tk,Uk,Vk,Wk,Xk,Zk,dl,el,fl,hl,jl,kl,ml,nl,ol,ql,tl,ul,vl,wl,yl,zl,Gl,Il,Pl,Rl,Tl,Ul,Vl,Wl,Zl,am,bm,cm,dm,gm,hm,km,om,pm,qm,sm,Bm,Cm,Dm,Nm,Ym,hn,rn,sn,zn,Bn,Fn,Hn,In,Jn,Kn,Ln,Mn,Nn,On,Qn,Un,Vn,Xn,Yn,ao,co,eo,go,ho,io,ko,no,oo,qo,ro,yo,Ao,Eo,Go,Ho,Io,Jo,Ko,Lo,Mo,No,Po,To,Uo,Wo,Xo,Zo,bp,cp,ep,fp,gp,ip,jp,np,op;
-u64 ob,rb,tb,vb,wb,yb,Ab,Bb,Db,Nb,Qb,Rb,Sb,Tb,Vb,Wb,Xb,Zb,ac,bc,cc,dc,fc,gc,hc,ic,jc,lc,mc,nc,Cc,Ic,Lc,Nc,Pc,Qc,Sc,Uc,Wc,bd,dd,pd,sd,td,ud,Dd,Fd,Hd,Id,Od,Qd,Sd,Td,Yd,ae,ce,de,ee,je,le,ne,oe,se,ue,we,xe,Ae,De,Fe,He,Ie,Ke,Me,Ne,Pe,Ye,af,bf,cf,sf,yf,Bf,Df,Ff,Gf,If,Kf,Mf,Rf,Tf,gg,kg,mg,ng,og,wg,yg,Ag,Bg,Hg,Jg,Lg,Mg,Rg,Tg,Vg,Wg,Xg,ch,eh,gh,hh,lh,nh,ph,qh,sh,vh,xh,zh,Ah,Ch,Eh,Fh,Hh,Rh,Uh,Vh,Wh,Xh,Zh,ai,bi,di,ei,fi,gi,hi,ji,ki,li,mi,ni,pi,qi,ri,Gi,Mi,Pi,Ri,Ti,Ui,Wi,Yi,aj,fj,hj,tj,vj,wj,xj,Fj,Hj,Jj,Kj,Qj,Sj,Uj,Vj,ak,ck,ek,fk,gk,lk,nk,pk,qk,uk,wk,yk,zk,Ak,Dk,Fk,Hk,Ik,Kk,Mk,Nk,Pk,Yk,al,bl,cl,rl,xl,Al,Cl,El,Fl,Hl,Jl,Ll,Ql,Sl,fm,jm,lm,mm,nm,vm,xm,zm,Am,Gm,Im,Km,Lm,Qm,Sm,Um,Vm,Wm,bn,dn,fn,gn,kn,mn,on,pn,qn,tn,vn,xn,yn,An,Cn,En,Gn,Pn,Rn,Sn,Tn,lo,po,so,uo,wo,xo,zo,Bo,Do,Fo,Oo,Qo,Ro,So,kp;
-u8 *sb,*ub,*Mb,*tc,*wc,*Mc,*Oc,*Vc,*Bd,*Cd,*Ed,*Gd,*Md,*Nd,*Pd,*Rd,*Wd,*Xd,*Zd,*be,*he,*ie,*ke,*me,*qe,*re,*te,*ve,*Ee,*Ge,*jf,*mf,*Cf,*Ef,*Lf,*fg,*ug,*vg,*xg,*zg,*Fg,*Gg,*Ig,*Kg,*Pg,*Qg,*Sg,*Ug,*ah,*bh,*dh,*fh,*jh,*kh,*mh,*oh,*wh,*yh,*Qh,*xi,*Ai,*Qi,*Si,*Zi,*Dj,*Ej,*Gj,*Ij,*Oj,*Pj,*Rj,*Tj,*Yj,*Zj,*bk,*dk,*jk,*kk,*mk,*ok,*sk,*tk,*vk,*xk,*Ek,*Gk,*il,*ll,*Bl,*Dl,*Kl,*em,*tm,*um,*wm,*ym,*Em,*Fm,*Hm,*Jm,*Om,*Pm,*Rm,*Tm,*Zm,*an,*cn,*en,*in,*jn,*ln,*nn,*un,*wn,*bo,*fo,*to,*vo,*ap,*dp;
-s_8_8 rc,Ac,Dc,zd,Ud,fe,gf,qf,tf,sg,Ng,Yg,vi,Ei,Hi,Bj,Wj,hk,gl,pl,sl,rm,Mm,Xm,Zn,jo,mo,Yo,hp,lp,pp,sp;
+u32 hb,Xc,Yc,Zc,id,jd,Qd,ng,og,pg,yg,zg,Jg,Bj,Cj,Dj,Mj,Nj,sk,Mm,Nm,Om,Xm,Ym,in,Eo,Xo,Hp,aq;
+u8 ib,jb,kb,lb,mb,nb,pb,qb,xb,zb,Cb,Eb,Fb,Gb,Hb,Ib,Jb,Kb,Lb,Ob,Pb,Ub,Yb,ec,kc,oc,pc,qc,sc,uc,vc,xc,yc,zc,Bc,Ec,Fc,Gc,Hc,Jc,Kc,Rc,Tc,ad,cd,ed,fd,gd,hd,kd,ld,md,nd,od,sd,td,zd,Dd,Jd,Od,Pd,Sd,Wd,Xd,Yd,ae,je,ke,le,ve,Ge,Pe,Ye,Ze,bf,cf,kf,mf,pf,rf,sf,tf,uf,vf,wf,xf,yf,Af,Ef,Ff,Gf,If,Kf,Lf,Nf,Of,Pf,Rf,Uf,Vf,Wf,Xf,Zf,ag,hg,jg,qg,sg,ug,vg,wg,xg,Ag,Bg,Cg,Dg,Eg,Hg,Ig,Lg,Pg,Qg,Rg,Tg,ch,dh,eh,oh,zh,Ih,Rh,Th,Uh,bi,di,gi,ii,ji,ki,li,mi,ni,oi,pi,si,ti,yi,Ci,Ii,Oi,Si,Ti,Ui,Wi,Yi,Zi,bj,cj,dj,fj,ij,jj,kj,lj,nj,oj,vj,xj,Ej,Gj,Ij,Jj,Kj,Lj,Oj,Pj,Qj,Rj,Sj,Vj,Wj,bk,fk,lk,qk,rk,uk,yk,zk,Ak,Ck,Lk,Mk,Nk,Xk,il,rl,Bl,Cl,Jl,Ll,Ol,Ql,Rl,Sl,Tl,Ul,Vl,Wl,Xl,Zl,dm,em,fm,hm,jm,km,mm,nm,om,qm,tm,um,vm,wm,ym,zm,Gm,Im,Pm,Rm,Tm,Um,Vm,Wm,Zm,an,bn,cn,dn,gn,hn,kn,on,pn,qn,sn,Bn,Cn,Dn,Nn,Yn,io,so,to,Ao,Co,Go,Io,Jo,Ko,Lo,Mo,No,Oo,Po,Ro,Vo,Wo,Yo,Zo,bp,dp,ep,gp,hp,ip,kp,op,pp,tp,up,Dp,Fp,Jp,Lp,Mp,Np,Op,Pp,Qp,Rp,Sp,Up,Yp,Zp,bq,cq,eq,gq,hq,jq,kq,lq,nq,oq,rq,sq;
+u64 ob,rb,tb,vb,wb,yb,Ab,Bb,Db,Nb,Qb,Rb,Sb,Tb,Vb,Wb,Xb,Zb,ac,bc,cc,dc,fc,gc,hc,ic,jc,lc,mc,nc,Cc,Ic,Lc,Nc,Pc,Qc,Sc,Uc,Wc,bd,dd,qd,ud,vd,xd,yd,Ad,Bd,Cd,Ed,Fd,Gd,Hd,Id,Kd,Ld,Md,Nd,Rd,Td,Ud,Vd,de,fe,he,ie,oe,qe,se,te,ye,Ae,Ce,De,Ee,Je,Le,Ne,Oe,Se,Ue,We,Xe,af,df,ff,hf,jf,lf,nf,of,qf,zf,Bf,Cf,Df,Sf,Yf,bg,dg,fg,gg,ig,kg,mg,rg,tg,Gg,Kg,Mg,Ng,Og,Wg,Yg,ah,bh,hh,jh,lh,mh,rh,th,vh,wh,xh,Ch,Eh,Gh,Hh,Lh,Nh,Ph,Qh,Sh,Vh,Xh,Zh,ai,ci,ei,fi,hi,ri,ui,vi,wi,xi,zi,Ai,Bi,Di,Ei,Fi,Gi,Hi,Ji,Ki,Li,Mi,Ni,Pi,Qi,Ri,gj,mj,pj,rj,tj,uj,wj,yj,Aj,Fj,Hj,Uj,Xj,Yj,Zj,ak,ck,dk,ek,gk,hk,ik,jk,kk,mk,nk,ok,pk,tk,vk,wk,xk,Fk,Hk,Jk,Kk,Qk,Sk,Uk,Vk,al,cl,el,fl,gl,ll,nl,pl,ql,ul,wl,yl,zl,Al,Dl,Fl,Hl,Il,Kl,Ml,Nl,Pl,Yl,am,bm,cm,rm,xm,Am,Cm,Em,Fm,Hm,Jm,Lm,Qm,Sm,fn,jn,ln,mn,nn,vn,xn,zn,An,Gn,In,Kn,Ln,Qn,Sn,Un,Vn,Wn,bo,eo,go,ho,lo,no,po,qo,ro,uo,wo,yo,zo,Bo,Do,Fo,Ho,Qo,So,To,Uo,lp,sp,vp,zp,Bp,Cp,Ep,Gp,Ip,Kp,Tp,Vp,Wp,Xp,pq;
+u8 *sb,*ub,*Mb,*tc,*wc,*Mc,*Oc,*Vc,*pd,*be,*ce,*ee,*ge,*me,*ne,*pe,*re,*we,*xe,*ze,*Be,*He,*Ie,*Ke,*Me,*Qe,*Re,*Te,*Ve,*ef,*gf,*Jf,*Mf,*cg,*eg,*lg,*Fg,*Ug,*Vg,*Xg,*Zg,*fh,*gh,*ih,*kh,*ph,*qh,*sh,*uh,*Ah,*Bh,*Dh,*Fh,*Jh,*Kh,*Mh,*Oh,*Wh,*Yh,*qi,*Xi,*aj,*qj,*sj,*zj,*Tj,*Dk,*Ek,*Gk,*Ik,*Ok,*Pk,*Rk,*Tk,*Yk,*Zk,*bl,*dl,*jl,*kl,*ml,*ol,*sl,*tl,*vl,*xl,*El,*Gl,*im,*lm,*Bm,*Dm,*Km,*en,*tn,*un,*wn,*yn,*En,*Fn,*Hn,*Jn,*On,*Pn,*Rn,*Tn,*Zn,*ao,*co,*fo,*jo,*ko,*mo,*oo,*vo,*xo,*cp,*fp,*yp,*Ap,*fq,*iq;
+s_8_8 rc,Ac,Dc,Zd,ue,Fe,Hf,Qf,Tf,Sg,nh,yh,Vi,ej,hj,Bk,Wk,hl,gm,pm,sm,rn,Mn,Xn,ap,jp,np,dq,mq,qq,tq,uq;
 hb=q4(a);
 ib=a[4];
 jb=a[5];
@@ -36839,35 +36836,16 @@ default:goto L17;
 Sc=1;
 L18:Tc=Sc;
 Uc=Sc>>32;
+if(Jc){
 Vc=Oc+(i64)Uc;
 Wc=Nc-Uc;
-if(!Jc){
-z12(Qa);
-append_3f1(Qa,gb,Ua,Tc,Vc,Wc,Va);
-if(*Qa!=0){
-xd=push_refused_bbc(0,Oc,Nc,Qa[4],r4(Qa+8),Va,Va+24);
-nd=1;
-od=xd;
-goto L19;}
-pd=r8(Va+8);
-if(r8(Va+16)==pd){
-qd=grow_amortized_68b(Va,1);
-if(!qd)goto L20;
-sd=r8(Va+8);}
-else sd=pd;
-*(rp(Va)+sd)=10;
-td=sd+1;
-w8(Va+8,td);
-ud=td;
-vd=Kc;
-goto L21;}
 z16(Ra);
 demangle_fb7(Ra,gb,Ua,Tc,Vc,Wc,Va);
 Xc=r4(Ra+8);
 switch(*Ra){
 case 0:Yc=r4(Ra+4);
 Zc=r4(Ra+12);
-ad=rewrite_43c(gb,Ua+1544,Tc,Vc,Wc,Pc,Va);
+ad=rewrite_or_remove_1ed(gb+8,Ua+1544,Tc,Vc,Wc,Pc,Va);
 if(ad==0){
 w4(Sa,Yc);
 w4(Sa+4,Xc);
@@ -36875,7 +36853,7 @@ w4(Sa+8,Zc);
 bd=r8(Va+8);
 if(r8(Va+16)==bd){
 cd=grow_amortized_68b(Va,1);
-if(!cd)goto L22;
+if(!cd)goto L19;
 dd=r8(Va+8);}
 else dd=bd;
 *(rp(Va)+dd)=10;
@@ -36883,7 +36861,7 @@ w8(Va+8,dd+1);
 ed=push_counts_ddb(Sa,Va);
 fd=!(ed&1);
 gd=ed;
-goto L23;}
+goto L20;}
 hd=4;
 id=0;
 break;
@@ -36892,11 +36870,11 @@ w4(Ta,r4(Ra+4));
 w4(Ta+4,Xc);
 w4(Ta+8,jd);
 kd=push_refused_bbc(0,Oc,Nc,3,0,Va,Va+24);
-if(kd&1)goto L22;
+if(kd&1)goto L19;
 ld=push_counts_ddb(Ta,Va);
 fd=0;
 gd=ld;
-goto L23;
+goto L20;
 case 2:hd=Ra[4];
 id=Xc;
 break;
@@ -36905,135 +36883,234 @@ default:NEVER;
 md=push_refused_bbc(0,Oc,Nc,hd,id,Va,Va+24);
 fd=0;
 gd=md;
-goto L23;
-L22:goto L20;
-L23:nd=(gd==0&&fd)?Kc:1;
+goto L20;
+L19:goto L21;
+L20:nd=(gd==0&&fd)?Kc:1;
 od=gd;
-goto L19;}
-L17:yd=push_unnamed_383(Oc,Nc,Va,Va+24);
+goto L22;}
+pd=Oc+(i64)Uc;
+qd=Nc-Uc;
+z12(Qa);
+if(qd>=21){
+if(pd[2]==78){
+sd=pd[3];
+if((u8)(sd-49)>=9){
+xd=3;
+yd=3;
+zd=sd;
+goto L23;}
+td=sd;
+ud=3;
+vd=3;
+L24:Ad=vd+9;
+Bd=vd;
+Cd=0;
+L25:Dd=*(pd+Bd)-48;
+if(Dd<10){
+Ed=Cd*10+Dd;
+Fd=Bd+1;
+if(Fd-vd<9){
+Bd=Fd;
+Cd=Ed;
+goto L25;}
+if(Ad<qd){
+if((u8)(*(pd+Ad)-48)<10){
+xd=vd;
+yd=ud;
+zd=td;
+goto L23;}
+Gd=Ed;
+Hd=Ad;}
+else{
+Gd=Ed;
+Hd=Ad;}}
+else{
+Gd=Cd;
+Hd=Bd;}
+Id=Hd+Gd;
+if(Id+17>=qd){
+if(Id>=qd)goto L26;
+if(*(pd+Id)!=69)goto L26;
+Kd=Id+1;
+if(qd==Kd){
+if(vd==3)goto L26;
+Ld=vd;
+Md=qd;
+goto L27;}
+if(vd==3||(qd-Kd<2||*(pd+(i64)Kd)!=46))goto L26;
+Ld=vd;
+Md=Kd;
+goto L27;}
+Jd=*(pd+Id);
+if((u8)(Jd-49)<9){
+td=Jd;
+ud=vd;
+vd=Id;
+goto L24;}
+xd=Id;
+yd=vd;
+zd=Jd;
+L23:if(!((xd<qd)&(zd==69)))goto L26;
+Nd=xd+1;
+if(qd==Nd){
+if(yd==3)goto L26;
+Ld=yd;
+Md=qd;}
+else{
+if(yd==3||(qd-Nd<2||*(pd+(i64)Nd)!=46))goto L26;
+Ld=yd;
+Md=Nd;}
+L27:append_named_70e(Qa,gb,Ua,Tc,pd,qd,Ld,Md,Va);
+goto L28;}}
+L26:append_e62(Qa,gb,Ua,Tc,pd,qd,Va);
+L28:if(*Qa==0){
+Od=rewrite_or_remove_1ed(gb+8,Ua+1544,Tc,pd,qd,Pc,Va);
+if(!(Od&1)){
+Rd=r8(Va+8);
+if(r8(Va+16)==Rd){
+Sd=grow_amortized_68b(Va,1);
+if(!Sd)goto L21;
+Td=r8(Va+8);}
+else Td=Rd;
+*(rp(Va)+Td)=10;
+Ud=Td+1;
+w8(Va+8,Ud);
+Vd=Ud;
+Wd=Kc;
+goto L29;}
+Pd=4;
+Qd=0;}
+else{
+Pd=Qa[4];
+Qd=r4(Qa+8);}
+Xd=push_refused_bbc(0,Oc,Nc,Pd,Qd,Va,Va+24);
 nd=1;
-od=yd;
-L19:if(od==0){
-ud=r8(Va+8);
-vd=nd;
-goto L21;}
-L20:w8(Va+8,umin64(r8(Va+8),Pc));
+od=Xd;
+goto L22;}
+L17:Yd=push_unnamed_383(Oc,Nc,Va,Va+24);
+nd=1;
+od=Yd;
+L22:if(od==0){
+Vd=r8(Va+8);
+Wd=nd;
+goto L29;}
+L21:w8(Va+8,umin64(r8(Va+8),Pc));
 w8(Va+32,umin64(r8(Va+32),Qc));
-zd=write_120(Va,d,e);
-Ad=r8(Va+16)==0;
-if(zd.f0==0){
-if(!Ad)port_rattle_dealloc(rp(Va));
+Zd=write_120(Va,d,e);
+ae=r8(Va+16)==0;
+if(Zd.f0==0){
+if(!ae)port_rattle_dealloc(rp(Va));
 if(r8(Va+40)!=0)port_rattle_dealloc(rp(Va+24));
-Bd=rp(Ua+1544);
-Cd=rp(Ua+1584);
-Dd=r8(Ua+1600);
-Ed=rp(Ua+1608);
-Fd=r8(Ua+1624);
-Gd=rp(Ua+1632);
-Hd=r8(Ua+1648);
-Id=r8(Ua+1560);
+be=rp(Ua+1544);
+ce=rp(Ua+1584);
+de=r8(Ua+1600);
+ee=rp(Ua+1608);
+fe=r8(Ua+1624);
+ge=rp(Ua+1632);
+he=r8(Ua+1648);
+ie=r8(Ua+1560);
 memcpy(Pa,Ua,1544);
 drop_816(Pa);
-if(Id!=0)port_rattle_dealloc(Bd);
-if(Dd!=0)port_rattle_dealloc(Cd);
-if(Fd!=0)port_rattle_dealloc(Ed);
-if(Hd!=0)port_rattle_dealloc(Gd);
-Jd=2;
-Kd=1;
-goto L24;}
-Ld=zd.f1;
-if(!Ad)port_rattle_dealloc(rp(Va));
+if(ie!=0)port_rattle_dealloc(be);
+if(de!=0)port_rattle_dealloc(ce);
+if(fe!=0)port_rattle_dealloc(ee);
+if(he!=0)port_rattle_dealloc(ge);
+je=2;
+ke=1;
+goto L30;}
+le=Zd.f1;
+if(!ae)port_rattle_dealloc(rp(Va));
 if(r8(Va+40)!=0)port_rattle_dealloc(rp(Va+24));
-Md=rp(Ua+1544);
-Nd=rp(Ua+1584);
-Od=r8(Ua+1600);
-Pd=rp(Ua+1608);
-Qd=r8(Ua+1624);
-Rd=rp(Ua+1632);
-Sd=r8(Ua+1648);
-Td=r8(Ua+1560);
+me=rp(Ua+1544);
+ne=rp(Ua+1584);
+oe=r8(Ua+1600);
+pe=rp(Ua+1608);
+qe=r8(Ua+1624);
+re=rp(Ua+1632);
+se=r8(Ua+1648);
+te=r8(Ua+1560);
 memcpy(Oa,Ua,1544);
 drop_816(Oa);
-if(Td!=0)port_rattle_dealloc(Md);
-if(Od!=0)port_rattle_dealloc(Nd);
-if(Qd!=0)port_rattle_dealloc(Pd);
-if(Sd!=0)port_rattle_dealloc(Rd);
-Jd=Ld;
-Kd=1;
-goto L24;
-L21:if(!(ud<4096&&r8(Va+32)<4096)){
-Ud=write_120(Va,d,e);
-if(Ud.f0!=0){
-Vd=Ud.f1;
+if(te!=0)port_rattle_dealloc(me);
+if(oe!=0)port_rattle_dealloc(ne);
+if(qe!=0)port_rattle_dealloc(pe);
+if(se!=0)port_rattle_dealloc(re);
+je=le;
+ke=1;
+goto L30;
+L29:if(!(Vd<4096&&r8(Va+32)<4096)){
+ue=write_120(Va,d,e);
+if(ue.f0!=0){
+ve=ue.f1;
 if(r8(Va+16)!=0)port_rattle_dealloc(rp(Va));
 if(r8(Va+40)!=0)port_rattle_dealloc(rp(Va+24));
-Wd=rp(Ua+1544);
-Xd=rp(Ua+1584);
-Yd=r8(Ua+1600);
-Zd=rp(Ua+1608);
-ae=r8(Ua+1624);
-be=rp(Ua+1632);
-ce=r8(Ua+1648);
-de=r8(Ua+1560);
+we=rp(Ua+1544);
+xe=rp(Ua+1584);
+ye=r8(Ua+1600);
+ze=rp(Ua+1608);
+Ae=r8(Ua+1624);
+Be=rp(Ua+1632);
+Ce=r8(Ua+1648);
+De=r8(Ua+1560);
 memcpy(Na,Ua,1544);
 drop_816(Na);
-if(de!=0)port_rattle_dealloc(Wd);
-if(Yd!=0)port_rattle_dealloc(Xd);
-if(ae!=0)port_rattle_dealloc(Zd);
-if(ce!=0)port_rattle_dealloc(be);
-Jd=Vd;
-Kd=1;
-goto L24;}}
-ee=Lc+1;
-if(ee!=c){
-Kc=vd;
-Lc=ee;
+if(De!=0)port_rattle_dealloc(we);
+if(ye!=0)port_rattle_dealloc(xe);
+if(Ae!=0)port_rattle_dealloc(ze);
+if(Ce!=0)port_rattle_dealloc(Be);
+je=ve;
+ke=1;
+goto L30;}}
+Ee=Lc+1;
+if(Ee!=c){
+Kc=Wd;
+Lc=Ee;
 goto L16;}
-fe=write_120(Va,d,e);
-ge=r8(Va+16)==0;
-if(fe.f0==0){
-if(!ge)port_rattle_dealloc(rp(Va));
+Fe=write_120(Va,d,e);
+Ge=r8(Va+16)==0;
+if(Fe.f0==0){
+if(!Ge)port_rattle_dealloc(rp(Va));
 if(r8(Va+40)!=0)port_rattle_dealloc(rp(Va+24));
-he=rp(Ua+1544);
-ie=rp(Ua+1584);
-je=r8(Ua+1600);
-ke=rp(Ua+1608);
-le=r8(Ua+1624);
-me=rp(Ua+1632);
-ne=r8(Ua+1648);
-oe=r8(Ua+1560);
+He=rp(Ua+1544);
+Ie=rp(Ua+1584);
+Je=r8(Ua+1600);
+Ke=rp(Ua+1608);
+Le=r8(Ua+1624);
+Me=rp(Ua+1632);
+Ne=r8(Ua+1648);
+Oe=r8(Ua+1560);
 memcpy(Ma,Ua,1544);
 drop_816(Ma);
-if(oe!=0)port_rattle_dealloc(he);
-if(je!=0)port_rattle_dealloc(ie);
-if(le!=0)port_rattle_dealloc(ke);
-if(ne!=0)port_rattle_dealloc(me);
-Jd=vd;
-Kd=0;}
+if(Oe!=0)port_rattle_dealloc(He);
+if(Je!=0)port_rattle_dealloc(Ie);
+if(Le!=0)port_rattle_dealloc(Ke);
+if(Ne!=0)port_rattle_dealloc(Me);
+je=Wd;
+ke=0;}
 else{
-pe=fe.f1;
-if(!ge)port_rattle_dealloc(rp(Va));
+Pe=Fe.f1;
+if(!Ge)port_rattle_dealloc(rp(Va));
 if(r8(Va+40)!=0)port_rattle_dealloc(rp(Va+24));
-qe=rp(Ua+1544);
-re=rp(Ua+1584);
-se=r8(Ua+1600);
-te=rp(Ua+1608);
-ue=r8(Ua+1624);
-ve=rp(Ua+1632);
-we=r8(Ua+1648);
-xe=r8(Ua+1560);
+Qe=rp(Ua+1544);
+Re=rp(Ua+1584);
+Se=r8(Ua+1600);
+Te=rp(Ua+1608);
+Ue=r8(Ua+1624);
+Ve=rp(Ua+1632);
+We=r8(Ua+1648);
+Xe=r8(Ua+1560);
 memcpy(La,Ua,1544);
 drop_816(La);
-if(xe!=0)port_rattle_dealloc(qe);
-if(se!=0)port_rattle_dealloc(re);
-if(ue!=0)port_rattle_dealloc(te);
-if(we!=0)port_rattle_dealloc(ve);
-Jd=pe;
-Kd=1;}
-L24:Gc=Kd;
-Hc=Jd;}
-ye=Gc;
-ze=Hc;}
+if(Xe!=0)port_rattle_dealloc(Qe);
+if(Se!=0)port_rattle_dealloc(Re);
+if(Ue!=0)port_rattle_dealloc(Te);
+if(We!=0)port_rattle_dealloc(Ve);
+je=Pe;
+ke=1;}
+L30:Gc=ke;
+Hc=je;}
+Ye=Gc;
+Ze=Hc;}
 else{
 z12(Ka);
 w4(Ja,hb);
@@ -37047,7 +37124,7 @@ zero_all(Fa,1544);
 zero_all(Ga,1544);
 zero_all(Ha,1544);
 zero_all(Ia,1544);
-Ae=(u64)(u8*)65536;
+af=(u64)(u8*)65536;
 wp(Ca,(u8*)65536);
 z24(Ca+8);
 wp(Ca+32,(u8*)65536);
@@ -37082,9 +37159,9 @@ wp(Ca+536,(u8*)65536);
 z32(Ca+544);
 wp(Ca+576,(u8*)65536);
 z104(Ca+584);
-w8(Ca+688,Ae);
+w8(Ca+688,af);
 z40(Ca+696);
-w8(Ca+736,Ae);
+w8(Ca+736,af);
 z16(Ca+744);
 wp(Ca+760,(u8*)65536);
 z32(Ca+768);
@@ -37126,9 +37203,9 @@ wp(Ca+1352,(u8*)65536);
 z16(Ca+1360);
 wp(Ca+1376,(u8*)65536);
 z48(Ca+1384);
-w8(Ca+1432,Ae);
+w8(Ca+1432,af);
 z40(Ca+1440);
-w8(Ca+1480,Ae);
+w8(Ca+1480,af);
 z16(Ca+1488);
 wp(Ca+1504,(u8*)65536);
 z32(Ca+1512);
@@ -37136,183 +37213,183 @@ wp(Da,(u8*)65536);
 z16(Da+8);
 wp(Da+24,(u8*)65536);
 z16(Da+32);
-Be=lb&1;
-Ce=0;
-De=0;
-L25:Ee=b+(i64)(De<<4);
-Fe=r8(Ee+8);
-Ge=rp(Ee);
-He=r8(Da+8);
-Ie=r8(Da+32);
-if(Fe-65537>=0xffffffffffff0001u){
-Je=*Ge==95;
-if(Fe==2){
-if(!Je)goto L26;
-switch(Ge[1]){
-case 90:Ke=0;
-goto L27;
+bf=lb&1;
+cf=0;
+df=0;
+L31:ef=b+(i64)(df<<4);
+ff=r8(ef+8);
+gf=rp(ef);
+hf=r8(Da+8);
+jf=r8(Da+32);
+if(ff-65537>=0xffffffffffff0001u){
+kf=*gf==95;
+if(ff==2){
+if(!kf)goto L32;
+switch(gf[1]){
+case 90:lf=0;
+goto L33;
 case 82:break;
-default:goto L26;
+default:goto L32;
 }}
 else{
-if(!Je)goto L26;
-switch(Ge[1]){
-case 90:Ke=0;
-goto L27;
+if(!kf)goto L32;
+switch(gf[1]){
+case 90:lf=0;
+goto L33;
 case 82:break;
-case 95:switch(Ge[2]){
-case 90:Ke=0x100000000u;
-goto L27;
-case 82:Ke=0x100000001u;
-goto L27;
-default:goto L26;
+case 95:switch(gf[2]){
+case 90:lf=0x100000000u;
+goto L33;
+case 82:lf=0x100000001u;
+goto L33;
+default:goto L32;
 }
 break;
-default:goto L26;
+default:goto L32;
 }}
-Ke=1;
-L27:Le=Ke;
-Me=Ke>>32;
-if(!Be){
+lf=1;
+L33:mf=lf;
+nf=lf>>32;
+if(!bf){
 z12(Aa);
-append_e62(Aa,Ja,Ca,Le,Ge+(i64)Me,Fe-Me,Da);
+append_e62(Aa,Ja,Ca,mf,gf+(i64)nf,ff-nf,Da);
 if(*Aa!=0){
-ef=push_refused_bbc(0,Ge,Fe,Aa[4],r4(Aa+8),Da,Da+24);
-We=1;
-Xe=ef;
-goto L28;}
-Ye=r8(Da+8);
-if(r8(Da+16)==Ye){
-Ze=grow_amortized_68b(Da,1);
-if(!Ze)goto L29;
-af=r8(Da+8);}
-else af=Ye;
-*(rp(Da)+af)=10;
-bf=af+1;
-w8(Da+8,bf);
-cf=bf;
-df=Ce;
-goto L30;}
-demangle_f29(Ba,Ja,Ca,Le,Ge+(i64)Me,Fe-Me,Da);
+Ff=push_refused_bbc(0,gf,ff,Aa[4],r4(Aa+8),Da,Da+24);
+xf=1;
+yf=Ff;
+goto L34;}
+zf=r8(Da+8);
+if(r8(Da+16)==zf){
+Af=grow_amortized_68b(Da,1);
+if(!Af)goto L35;
+Bf=r8(Da+8);}
+else Bf=zf;
+*(rp(Da)+Bf)=10;
+Cf=Bf+1;
+w8(Da+8,Cf);
+Df=Cf;
+Ef=cf;
+goto L36;}
+demangle_f29(Ba,Ja,Ca,mf,gf+(i64)nf,ff-nf,Da);
 switch(*Ba){
-case 0:Ne=r8(Da+8);
-if(r8(Da+16)==Ne){
-Oe=grow_amortized_68b(Da,1);
-if(!Oe)break;
-Pe=r8(Da+8);}
-else Pe=Ne;
-*(rp(Da)+Pe)=10;
-w8(Da+8,Pe+1);
-Qe=push_counts_ddb(Ba+4,Da);
-Re=!(Qe&1);
-Se=Qe;
-goto L31;
-case 1:Te=push_refused_bbc(0,Ge,Fe,3,0,Da,Da+24);
-if(!(Te&1)){
-Ue=push_counts_ddb(Ba+4,Da);
-Re=0;
-Se=Ue;
-goto L31;}
+case 0:of=r8(Da+8);
+if(r8(Da+16)==of){
+pf=grow_amortized_68b(Da,1);
+if(!pf)break;
+qf=r8(Da+8);}
+else qf=of;
+*(rp(Da)+qf)=10;
+w8(Da+8,qf+1);
+rf=push_counts_ddb(Ba+4,Da);
+sf=!(rf&1);
+tf=rf;
+goto L37;
+case 1:uf=push_refused_bbc(0,gf,ff,3,0,Da,Da+24);
+if(!(uf&1)){
+vf=push_counts_ddb(Ba+4,Da);
+sf=0;
+tf=vf;
+goto L37;}
 break;
-case 2:Ve=push_refused_bbc(0,Ge,Fe,Ba[4],r4(Ba+8),Da,Da+24);
-Re=0;
-Se=Ve;
-goto L31;
+case 2:wf=push_refused_bbc(0,gf,ff,Ba[4],r4(Ba+8),Da,Da+24);
+sf=0;
+tf=wf;
+goto L37;
 default:NEVER;
 }
-goto L29;
-L31:We=(Se==0&&Re)?Ce:1;
-Xe=Se;
-goto L28;}
-L26:ff=push_unnamed_383(Ge,Fe,Da,Da+24);
-We=1;
-Xe=ff;
-L28:if(Xe==0){
-cf=r8(Da+8);
-df=We;
-goto L30;}
-L29:w8(Da+8,umin64(r8(Da+8),He));
-w8(Da+32,umin64(r8(Da+32),Ie));
-gf=write_120(Da,d,e);
-hf=r8(Da+16)==0;
-if(gf.f0==0){
-if(!hf)port_rattle_dealloc(rp(Da));
+goto L35;
+L37:xf=(tf==0&&sf)?cf:1;
+yf=tf;
+goto L34;}
+L32:Gf=push_unnamed_383(gf,ff,Da,Da+24);
+xf=1;
+yf=Gf;
+L34:if(yf==0){
+Df=r8(Da+8);
+Ef=xf;
+goto L36;}
+L35:w8(Da+8,umin64(r8(Da+8),hf));
+w8(Da+32,umin64(r8(Da+32),jf));
+Hf=write_120(Da,d,e);
+If=r8(Da+16)==0;
+if(Hf.f0==0){
+if(!If)port_rattle_dealloc(rp(Da));
 if(r8(Da+40)==0){
-jf=Fa;
-kf=2;
-lf=1;
-goto L32;}
-mf=Fa;
-nf=2;
-of=1;
-goto L33;}
-pf=gf.f1;
-if(!hf)port_rattle_dealloc(rp(Da));
+Jf=Fa;
+Kf=2;
+Lf=1;
+goto L38;}
+Mf=Fa;
+Nf=2;
+Of=1;
+goto L39;}
+Pf=Hf.f1;
+if(!If)port_rattle_dealloc(rp(Da));
 if(r8(Da+40)==0){
-jf=Ea;
-kf=pf;
-lf=1;
-goto L32;}
-mf=Ea;
-nf=pf;
-of=1;
-goto L33;
-L30:if(!(cf<4096&&r8(Da+32)<4096)){
-qf=write_120(Da,d,e);
-if(qf.f0!=0){
-rf=qf.f1;
+Jf=Ea;
+Kf=Pf;
+Lf=1;
+goto L38;}
+Mf=Ea;
+Nf=Pf;
+Of=1;
+goto L39;
+L36:if(!(Df<4096&&r8(Da+32)<4096)){
+Qf=write_120(Da,d,e);
+if(Qf.f0!=0){
+Rf=Qf.f1;
 if(r8(Da+16)!=0)port_rattle_dealloc(rp(Da));
 if(r8(Da+40)==0){
-jf=Ga;
-kf=rf;
-lf=1;
-goto L32;}
-mf=Ga;
-nf=rf;
-of=1;
-goto L33;}}
-sf=De+1;
-if(sf!=c){
-Ce=df;
-De=sf;
-goto L25;}
-tf=write_120(Da,d,e);
-uf=r8(Da+16)==0;
-if(tf.f0==0){
-if(!uf)port_rattle_dealloc(rp(Da));
+Jf=Ga;
+Kf=Rf;
+Lf=1;
+goto L38;}
+Mf=Ga;
+Nf=Rf;
+Of=1;
+goto L39;}}
+Sf=df+1;
+if(Sf!=c){
+cf=Ef;
+df=Sf;
+goto L31;}
+Tf=write_120(Da,d,e);
+Uf=r8(Da+16)==0;
+if(Tf.f0==0){
+if(!Uf)port_rattle_dealloc(rp(Da));
 if(r8(Da+40)==0){
-jf=Ia;
-kf=df;
-lf=0;
-goto L32;}
-mf=Ia;
-nf=df;
-of=0;}
+Jf=Ia;
+Kf=Ef;
+Lf=0;
+goto L38;}
+Mf=Ia;
+Nf=Ef;
+Of=0;}
 else{
-vf=tf.f1;
-if(!uf)port_rattle_dealloc(rp(Da));
+Vf=Tf.f1;
+if(!Uf)port_rattle_dealloc(rp(Da));
 if(r8(Da+40)==0){
-jf=Ha;
-kf=vf;
-lf=1;
-goto L32;}
-mf=Ha;
-nf=vf;
-of=1;}
-L33:port_rattle_dealloc(rp(Da+24));
-jf=mf;
-kf=nf;
-lf=of;
-L32:memcpy(jf,Ca,1544);
-drop_816(jf);
-wf=lf;
-xf=kf;}
+Jf=Ha;
+Kf=Vf;
+Lf=1;
+goto L38;}
+Mf=Ha;
+Nf=Vf;
+Of=1;}
+L39:port_rattle_dealloc(rp(Da+24));
+Jf=Mf;
+Kf=Nf;
+Lf=Of;
+L38:memcpy(Jf,Ca,1544);
+drop_816(Jf);
+Wf=Lf;
+Xf=Kf;}
 else{
 w8(Ka,r8(Ja));
 Ka[8]=kb;
 z48(ya+1608);
 z48(za);
-yf=(u64)(u8*)65536;
+Yf=(u64)(u8*)65536;
 wp(ya,(u8*)65536);
 z24(ya+8);
 wp(ya+32,(u8*)65536);
@@ -37347,9 +37424,9 @@ wp(ya+536,(u8*)65536);
 z32(ya+544);
 wp(ya+576,(u8*)65536);
 z104(ya+584);
-w8(ya+688,yf);
+w8(ya+688,Yf);
 z40(ya+696);
-w8(ya+736,yf);
+w8(ya+736,Yf);
 z16(ya+744);
 wp(ya+760,(u8*)65536);
 z32(ya+768);
@@ -37391,9 +37468,9 @@ wp(ya+1352,(u8*)65536);
 z16(ya+1360);
 wp(ya+1376,(u8*)65536);
 z48(ya+1384);
-w8(ya+1432,yf);
+w8(ya+1432,Yf);
 z40(ya+1440);
-w8(ya+1480,yf);
+w8(ya+1480,Yf);
 z16(ya+1488);
 wp(ya+1504,(u8*)65536);
 z32(ya+1512);
@@ -37409,254 +37486,254 @@ wp(za,(u8*)65536);
 z16(za+8);
 wp(za+24,(u8*)65536);
 z16(za+32);
-zf=lb&1;
-Af=0;
-Bf=0;
-L34:Cf=b+(i64)(Bf<<4);
-Df=r8(Cf+8);
-Ef=rp(Cf);
-Ff=r8(za+8);
-Gf=r8(za+32);
-if(Df-65537>=0xffffffffffff0001u){
-Hf=*Ef==95;
-if(Df==2){
-if(!Hf)goto L35;
-switch(Ef[1]){
-case 90:If=0;
-goto L36;
+Zf=lb&1;
+ag=0;
+bg=0;
+L40:cg=b+(i64)(bg<<4);
+dg=r8(cg+8);
+eg=rp(cg);
+fg=r8(za+8);
+gg=r8(za+32);
+if(dg-65537>=0xffffffffffff0001u){
+hg=*eg==95;
+if(dg==2){
+if(!hg)goto L41;
+switch(eg[1]){
+case 90:ig=0;
+goto L42;
 case 82:break;
-default:goto L35;
+default:goto L41;
 }}
 else{
-if(!Hf)goto L35;
-switch(Ef[1]){
-case 90:If=0;
-goto L36;
+if(!hg)goto L41;
+switch(eg[1]){
+case 90:ig=0;
+goto L42;
 case 82:break;
-case 95:switch(Ef[2]){
-case 90:If=0x100000000u;
-goto L36;
-case 82:If=0x100000001u;
-goto L36;
-default:goto L35;
+case 95:switch(eg[2]){
+case 90:ig=0x100000000u;
+goto L42;
+case 82:ig=0x100000001u;
+goto L42;
+default:goto L41;
 }
 break;
-default:goto L35;
+default:goto L41;
 }}
-If=1;
-L36:Jf=If;
-Kf=If>>32;
-if(!zf){
-fg=Ef+(i64)Kf;
-gg=Df-Kf;
+ig=1;
+L42:jg=ig;
+kg=ig>>32;
+if(!Zf){
+Fg=eg+(i64)kg;
+Gg=dg-kg;
 z12(ua);
-append_e62(ua,Ka,ya,Jf,fg,gg,za);
+append_e62(ua,Ka,ya,jg,Fg,Gg,za);
 if(*ua==0){
-hg=rewrite_43c(Ka,ya+1544,Jf,fg,gg,Ff,za);
-if(!(hg&1)){
-kg=r8(za+8);
-if(r8(za+16)==kg){
-lg=grow_amortized_68b(za,1);
-if(!lg)goto L37;
-mg=r8(za+8);}
-else mg=kg;
-*(rp(za)+mg)=10;
-ng=mg+1;
-w8(za+8,ng);
-og=ng;
-pg=Af;
-goto L38;}
-ig=4;
-jg=0;}
+Hg=rewrite_or_remove_1ed(Ka+8,ya+1544,jg,Fg,Gg,fg,za);
+if(!(Hg&1)){
+Kg=r8(za+8);
+if(r8(za+16)==Kg){
+Lg=grow_amortized_68b(za,1);
+if(!Lg)goto L43;
+Mg=r8(za+8);}
+else Mg=Kg;
+*(rp(za)+Mg)=10;
+Ng=Mg+1;
+w8(za+8,Ng);
+Og=Ng;
+Pg=ag;
+goto L44;}
+Ig=4;
+Jg=0;}
 else{
-ig=ua[4];
-jg=r4(ua+8);}
-qg=push_refused_bbc(0,Ef,Df,ig,jg,za,za+24);
-dg=1;
-eg=qg;
-goto L39;}
-Lf=Ef+(i64)Kf;
-Mf=Df-Kf;
-demangle_f29(va,Ka,ya,Jf,Lf,Mf,za);
-Nf=r4(va+8);
+Ig=ua[4];
+Jg=r4(ua+8);}
+Qg=push_refused_bbc(0,eg,dg,Ig,Jg,za,za+24);
+Dg=1;
+Eg=Qg;
+goto L45;}
+lg=eg+(i64)kg;
+mg=dg-kg;
+demangle_f29(va,Ka,ya,jg,lg,mg,za);
+ng=r4(va+8);
 switch(*va){
-case 0:Of=r4(va+4);
-Pf=r4(va+12);
-Qf=rewrite_43c(Ka,ya+1544,Jf,Lf,Mf,Ff,za);
-if(Qf==0){
-w4(wa,Of);
-w4(wa+4,Nf);
-w4(wa+8,Pf);
-Rf=r8(za+8);
-if(r8(za+16)==Rf){
-Sf=grow_amortized_68b(za,1);
-if(!Sf)goto L40;
-Tf=r8(za+8);}
-else Tf=Rf;
-*(rp(za)+Tf)=10;
-w8(za+8,Tf+1);
-Uf=push_counts_ddb(wa,za);
-Vf=!(Uf&1);
-Wf=Uf;
-goto L41;}
-Xf=4;
-Yf=0;
+case 0:og=r4(va+4);
+pg=r4(va+12);
+qg=rewrite_or_remove_1ed(Ka+8,ya+1544,jg,lg,mg,fg,za);
+if(qg==0){
+w4(wa,og);
+w4(wa+4,ng);
+w4(wa+8,pg);
+rg=r8(za+8);
+if(r8(za+16)==rg){
+sg=grow_amortized_68b(za,1);
+if(!sg)goto L46;
+tg=r8(za+8);}
+else tg=rg;
+*(rp(za)+tg)=10;
+w8(za+8,tg+1);
+ug=push_counts_ddb(wa,za);
+vg=!(ug&1);
+wg=ug;
+goto L47;}
+xg=4;
+yg=0;
 break;
-case 1:Zf=r4(va+12);
+case 1:zg=r4(va+12);
 w4(xa,r4(va+4));
-w4(xa+4,Nf);
-w4(xa+8,Zf);
-ag=push_refused_bbc(0,Ef,Df,3,0,za,za+24);
-if(ag&1)goto L40;
-bg=push_counts_ddb(xa,za);
-Vf=0;
-Wf=bg;
-goto L41;
-case 2:Xf=va[4];
-Yf=Nf;
+w4(xa+4,ng);
+w4(xa+8,zg);
+Ag=push_refused_bbc(0,eg,dg,3,0,za,za+24);
+if(Ag&1)goto L46;
+Bg=push_counts_ddb(xa,za);
+vg=0;
+wg=Bg;
+goto L47;
+case 2:xg=va[4];
+yg=ng;
 break;
 default:NEVER;
 }
-cg=push_refused_bbc(0,Ef,Df,Xf,Yf,za,za+24);
-Vf=0;
-Wf=cg;
-goto L41;
-L40:goto L37;
-L41:dg=(Wf==0&&Vf)?Af:1;
-eg=Wf;
-goto L39;}
-L35:rg=push_unnamed_383(Ef,Df,za,za+24);
-dg=1;
-eg=rg;
-L39:if(eg==0){
-og=r8(za+8);
-pg=dg;
-goto L38;}
-L37:w8(za+8,umin64(r8(za+8),Ff));
-w8(za+32,umin64(r8(za+32),Gf));
-sg=write_120(za,d,e);
-tg=r8(za+16)==0;
-if(sg.f0==0){
-if(!tg)port_rattle_dealloc(rp(za));
+Cg=push_refused_bbc(0,eg,dg,xg,yg,za,za+24);
+vg=0;
+wg=Cg;
+goto L47;
+L46:goto L43;
+L47:Dg=(wg==0&&vg)?ag:1;
+Eg=wg;
+goto L45;}
+L41:Rg=push_unnamed_383(eg,dg,za,za+24);
+Dg=1;
+Eg=Rg;
+L45:if(Eg==0){
+Og=r8(za+8);
+Pg=Dg;
+goto L44;}
+L43:w8(za+8,umin64(r8(za+8),fg));
+w8(za+32,umin64(r8(za+32),gg));
+Sg=write_120(za,d,e);
+Tg=r8(za+16)==0;
+if(Sg.f0==0){
+if(!Tg)port_rattle_dealloc(rp(za));
 if(r8(za+40)!=0)port_rattle_dealloc(rp(za+24));
-ug=rp(ya+1544);
-vg=rp(ya+1584);
-wg=r8(ya+1600);
-xg=rp(ya+1608);
-yg=r8(ya+1624);
-zg=rp(ya+1632);
-Ag=r8(ya+1648);
-Bg=r8(ya+1560);
+Ug=rp(ya+1544);
+Vg=rp(ya+1584);
+Wg=r8(ya+1600);
+Xg=rp(ya+1608);
+Yg=r8(ya+1624);
+Zg=rp(ya+1632);
+ah=r8(ya+1648);
+bh=r8(ya+1560);
 memcpy(ta,ya,1544);
 drop_816(ta);
-if(Bg!=0)port_rattle_dealloc(ug);
-if(wg!=0)port_rattle_dealloc(vg);
-if(yg!=0)port_rattle_dealloc(xg);
-if(Ag!=0)port_rattle_dealloc(zg);
-Cg=2;
-Dg=1;
-goto L42;}
-Eg=sg.f1;
-if(!tg)port_rattle_dealloc(rp(za));
+if(bh!=0)port_rattle_dealloc(Ug);
+if(Wg!=0)port_rattle_dealloc(Vg);
+if(Yg!=0)port_rattle_dealloc(Xg);
+if(ah!=0)port_rattle_dealloc(Zg);
+ch=2;
+dh=1;
+goto L48;}
+eh=Sg.f1;
+if(!Tg)port_rattle_dealloc(rp(za));
 if(r8(za+40)!=0)port_rattle_dealloc(rp(za+24));
-Fg=rp(ya+1544);
-Gg=rp(ya+1584);
-Hg=r8(ya+1600);
-Ig=rp(ya+1608);
-Jg=r8(ya+1624);
-Kg=rp(ya+1632);
-Lg=r8(ya+1648);
-Mg=r8(ya+1560);
+fh=rp(ya+1544);
+gh=rp(ya+1584);
+hh=r8(ya+1600);
+ih=rp(ya+1608);
+jh=r8(ya+1624);
+kh=rp(ya+1632);
+lh=r8(ya+1648);
+mh=r8(ya+1560);
 memcpy(sa,ya,1544);
 drop_816(sa);
-if(Mg!=0)port_rattle_dealloc(Fg);
-if(Hg!=0)port_rattle_dealloc(Gg);
-if(Jg!=0)port_rattle_dealloc(Ig);
-if(Lg!=0)port_rattle_dealloc(Kg);
-Cg=Eg;
-Dg=1;
-goto L42;
-L38:if(!(og<4096&&r8(za+32)<4096)){
-Ng=write_120(za,d,e);
-if(Ng.f0!=0){
-Og=Ng.f1;
+if(mh!=0)port_rattle_dealloc(fh);
+if(hh!=0)port_rattle_dealloc(gh);
+if(jh!=0)port_rattle_dealloc(ih);
+if(lh!=0)port_rattle_dealloc(kh);
+ch=eh;
+dh=1;
+goto L48;
+L44:if(!(Og<4096&&r8(za+32)<4096)){
+nh=write_120(za,d,e);
+if(nh.f0!=0){
+oh=nh.f1;
 if(r8(za+16)!=0)port_rattle_dealloc(rp(za));
 if(r8(za+40)!=0)port_rattle_dealloc(rp(za+24));
-Pg=rp(ya+1544);
-Qg=rp(ya+1584);
-Rg=r8(ya+1600);
-Sg=rp(ya+1608);
-Tg=r8(ya+1624);
-Ug=rp(ya+1632);
-Vg=r8(ya+1648);
-Wg=r8(ya+1560);
+ph=rp(ya+1544);
+qh=rp(ya+1584);
+rh=r8(ya+1600);
+sh=rp(ya+1608);
+th=r8(ya+1624);
+uh=rp(ya+1632);
+vh=r8(ya+1648);
+wh=r8(ya+1560);
 memcpy(ra,ya,1544);
 drop_816(ra);
-if(Wg!=0)port_rattle_dealloc(Pg);
-if(Rg!=0)port_rattle_dealloc(Qg);
-if(Tg!=0)port_rattle_dealloc(Sg);
-if(Vg!=0)port_rattle_dealloc(Ug);
-Cg=Og;
-Dg=1;
-goto L42;}}
-Xg=Bf+1;
-if(Xg!=c){
-Af=pg;
-Bf=Xg;
-goto L34;}
-Yg=write_120(za,d,e);
-Zg=r8(za+16)==0;
-if(Yg.f0==0){
-if(!Zg)port_rattle_dealloc(rp(za));
+if(wh!=0)port_rattle_dealloc(ph);
+if(rh!=0)port_rattle_dealloc(qh);
+if(th!=0)port_rattle_dealloc(sh);
+if(vh!=0)port_rattle_dealloc(uh);
+ch=oh;
+dh=1;
+goto L48;}}
+xh=bg+1;
+if(xh!=c){
+ag=Pg;
+bg=xh;
+goto L40;}
+yh=write_120(za,d,e);
+zh=r8(za+16)==0;
+if(yh.f0==0){
+if(!zh)port_rattle_dealloc(rp(za));
 if(r8(za+40)!=0)port_rattle_dealloc(rp(za+24));
-ah=rp(ya+1544);
-bh=rp(ya+1584);
-ch=r8(ya+1600);
-dh=rp(ya+1608);
-eh=r8(ya+1624);
-fh=rp(ya+1632);
-gh=r8(ya+1648);
-hh=r8(ya+1560);
+Ah=rp(ya+1544);
+Bh=rp(ya+1584);
+Ch=r8(ya+1600);
+Dh=rp(ya+1608);
+Eh=r8(ya+1624);
+Fh=rp(ya+1632);
+Gh=r8(ya+1648);
+Hh=r8(ya+1560);
 memcpy(qa,ya,1544);
 drop_816(qa);
-if(hh!=0)port_rattle_dealloc(ah);
-if(ch!=0)port_rattle_dealloc(bh);
-if(eh!=0)port_rattle_dealloc(dh);
-if(gh!=0)port_rattle_dealloc(fh);
-Cg=pg;
-Dg=0;}
+if(Hh!=0)port_rattle_dealloc(Ah);
+if(Ch!=0)port_rattle_dealloc(Bh);
+if(Eh!=0)port_rattle_dealloc(Dh);
+if(Gh!=0)port_rattle_dealloc(Fh);
+ch=Pg;
+dh=0;}
 else{
-ih=Yg.f1;
-if(!Zg)port_rattle_dealloc(rp(za));
+Ih=yh.f1;
+if(!zh)port_rattle_dealloc(rp(za));
 if(r8(za+40)!=0)port_rattle_dealloc(rp(za+24));
-jh=rp(ya+1544);
-kh=rp(ya+1584);
-lh=r8(ya+1600);
-mh=rp(ya+1608);
-nh=r8(ya+1624);
-oh=rp(ya+1632);
-ph=r8(ya+1648);
-qh=r8(ya+1560);
+Jh=rp(ya+1544);
+Kh=rp(ya+1584);
+Lh=r8(ya+1600);
+Mh=rp(ya+1608);
+Nh=r8(ya+1624);
+Oh=rp(ya+1632);
+Ph=r8(ya+1648);
+Qh=r8(ya+1560);
 memcpy(pa,ya,1544);
 drop_816(pa);
-if(qh!=0)port_rattle_dealloc(jh);
-if(lh!=0)port_rattle_dealloc(kh);
-if(nh!=0)port_rattle_dealloc(mh);
-if(ph!=0)port_rattle_dealloc(oh);
-Cg=ih;
-Dg=1;}
-L42:wf=Dg;
-xf=Cg;}
-ye=wf;
-ze=xf;}
+if(Qh!=0)port_rattle_dealloc(Jh);
+if(Lh!=0)port_rattle_dealloc(Kh);
+if(Nh!=0)port_rattle_dealloc(Mh);
+if(Ph!=0)port_rattle_dealloc(Oh);
+ch=Ih;
+dh=1;}
+L48:Wf=dh;
+Xf=ch;}
+Ye=Wf;
+Ze=Xf;}
 break;
-case 1:rh=jb==0;
+case 1:Rh=jb==0;
 if(mb&1){
 z12(oa);
 w4(na,hb);
 na[4]=ib;
 z3(na+5);
-if(rh){
+if(Rh){
 z32(ga+1512);
 z48(ha);
 zero_all(ia,1544);
@@ -37664,7 +37741,7 @@ zero_all(ja,1544);
 zero_all(ka,1544);
 zero_all(la,1544);
 zero_all(ma,1544);
-sh=(u64)(u8*)65536;
+Sh=(u64)(u8*)65536;
 wp(ga,(u8*)65536);
 z24(ga+8);
 wp(ga+32,(u8*)65536);
@@ -37699,9 +37776,9 @@ wp(ga+536,(u8*)65536);
 z32(ga+544);
 wp(ga+576,(u8*)65536);
 z104(ga+584);
-w8(ga+688,sh);
+w8(ga+688,Sh);
 z40(ga+696);
-w8(ga+736,sh);
+w8(ga+736,Sh);
 z16(ga+744);
 wp(ga+760,(u8*)65536);
 z32(ga+768);
@@ -37743,9 +37820,9 @@ wp(ga+1352,(u8*)65536);
 z16(ga+1360);
 wp(ga+1376,(u8*)65536);
 z48(ga+1384);
-w8(ga+1432,sh);
+w8(ga+1432,Sh);
 z40(ga+1440);
-w8(ga+1480,sh);
+w8(ga+1480,Sh);
 z16(ga+1488);
 wp(ga+1504,(u8*)65536);
 z32(ga+1512);
@@ -37753,258 +37830,258 @@ wp(ha,(u8*)65536);
 z16(ha+8);
 wp(ha+24,(u8*)65536);
 z16(ha+32);
-th=lb&1;
-uh=0;
-vh=0;
-L43:wh=b+(i64)(vh<<4);
-xh=r8(wh+8);
-yh=rp(wh);
-zh=r8(ha+8);
-Ah=r8(ha+32);
-if(xh-65537>=0xffffffffffff0001u){
-Bh=*yh==95;
-if(xh==2){
-if(!Bh)goto L44;
-switch(yh[1]){
-case 90:Ch=0;
-goto L45;
+Th=lb&1;
+Uh=0;
+Vh=0;
+L49:Wh=b+(i64)(Vh<<4);
+Xh=r8(Wh+8);
+Yh=rp(Wh);
+Zh=r8(ha+8);
+ai=r8(ha+32);
+if(Xh-65537>=0xffffffffffff0001u){
+bi=*Yh==95;
+if(Xh==2){
+if(!bi)goto L50;
+switch(Yh[1]){
+case 90:ci=0;
+goto L51;
 case 82:break;
-default:goto L44;
+default:goto L50;
 }}
 else{
-if(!Bh)goto L44;
-switch(yh[1]){
-case 90:Ch=0;
-goto L45;
+if(!bi)goto L50;
+switch(Yh[1]){
+case 90:ci=0;
+goto L51;
 case 82:break;
-case 95:switch(yh[2]){
-case 90:Ch=0x100000000u;
-goto L45;
-case 82:Ch=0x100000001u;
-goto L45;
-default:goto L44;
+case 95:switch(Yh[2]){
+case 90:ci=0x100000000u;
+goto L51;
+case 82:ci=0x100000001u;
+goto L51;
+default:goto L50;
 }
 break;
-default:goto L44;
+default:goto L50;
 }}
-Ch=1;
-L45:Dh=Ch;
-Eh=Ch>>32;
-if(th){
+ci=1;
+L51:di=ci;
+ei=ci>>32;
+if(Th){
 z16(fa);
-demangle_3c5(fa,na,ga,Dh,yh+(i64)Eh,xh-Eh,ha);
+demangle_3c5(fa,na,ga,di,Yh+(i64)ei,Xh-ei,ha);
 switch(*fa){
-case 0:Fh=r8(ha+8);
-if(r8(ha+16)==Fh){
-Gh=grow_amortized_68b(ha,1);
-if(!Gh)break;
-Hh=r8(ha+8);}
-else Hh=Fh;
-*(rp(ha)+Hh)=10;
-w8(ha+8,Hh+1);
-Ih=push_counts_ddb(fa+4,ha);
-Jh=!(Ih&1);
-Kh=Ih;
-goto L46;
-case 1:Lh=push_refused_bbc(1,yh,xh,3,0,ha,ha+24);
-if(!(Lh&1)){
-Mh=push_counts_ddb(fa+4,ha);
-Jh=0;
-Kh=Mh;
-goto L46;}
+case 0:fi=r8(ha+8);
+if(r8(ha+16)==fi){
+gi=grow_amortized_68b(ha,1);
+if(!gi)break;
+hi=r8(ha+8);}
+else hi=fi;
+*(rp(ha)+hi)=10;
+w8(ha+8,hi+1);
+ii=push_counts_ddb(fa+4,ha);
+ji=!(ii&1);
+ki=ii;
+goto L52;
+case 1:li=push_refused_bbc(1,Yh,Xh,3,0,ha,ha+24);
+if(!(li&1)){
+mi=push_counts_ddb(fa+4,ha);
+ji=0;
+ki=mi;
+goto L52;}
 break;
-case 2:Nh=push_refused_bbc(1,yh,xh,fa[4],r4(fa+8),ha,ha+24);
-Jh=0;
-Kh=Nh;
-goto L46;
+case 2:ni=push_refused_bbc(1,Yh,Xh,fa[4],r4(fa+8),ha,ha+24);
+ji=0;
+ki=ni;
+goto L52;
 default:NEVER;
 }
-goto L47;
-L46:Oh=(Kh==0&&Jh)?uh:1;
-Ph=Kh;
-goto L48;}
-Qh=yh+(i64)Eh;
-Rh=xh-Eh;
+goto L53;
+L52:oi=(ki==0&&ji)?Uh:1;
+pi=ki;
+goto L54;}
+qi=Yh+(i64)ei;
+ri=Xh-ei;
 z12(ea);
-if(Rh>=21){
-if(Qh[2]==78){
-Sh=Qh[3];
-if((u8)(Sh-49)>=9){
-Wh=3;
-Xh=3;
-Yh=Sh;
-goto L49;}
-Th=Sh;
-Uh=3;
-Vh=3;
-L50:Zh=Vh+9;
-ai=Vh;
-bi=0;
-L51:ci=*(Qh+ai)-48;
-if(ci<10){
-di=bi*10+ci;
-ei=ai+1;
-if(ei-Vh<9){
-ai=ei;
-bi=di;
-goto L51;}
-if(Zh<Rh){
-if((u8)(*(Qh+Zh)-48)<10){
-Wh=Vh;
-Xh=Uh;
-Yh=Th;
-goto L49;}
-fi=di;
-gi=Zh;}
-else{
-fi=di;
-gi=Zh;}}
-else{
-fi=bi;
-gi=ai;}
-hi=gi+fi;
-if(hi+17>=Rh){
-if(hi>=Rh)goto L52;
-if(*(Qh+hi)!=69)goto L52;
-ji=hi+1;
-if(Rh==ji){
-if(Vh==3)goto L52;
-ki=Vh;
-li=Rh;
-goto L53;}
-if(Vh==3||(Rh-ji<2||*(Qh+(i64)ji)!=46))goto L52;
-ki=Vh;
-li=ji;
-goto L53;}
-ii=*(Qh+hi);
-if((u8)(ii-49)<9){
-Th=ii;
-Uh=Vh;
-Vh=hi;
-goto L50;}
-Wh=hi;
-Xh=Vh;
-Yh=ii;
-L49:if(!((Wh<Rh)&(Yh==69)))goto L52;
-mi=Wh+1;
-if(Rh==mi){
-if(Xh==3)goto L52;
-ki=Xh;
-li=Rh;}
-else{
-if(Xh==3||(Rh-mi<2||*(Qh+(i64)mi)!=46))goto L52;
-ki=Xh;
-li=mi;}
-L53:append_named_795(ea,na,ga,Dh,Qh,Rh,ki,li,ha);
-goto L54;}}
-L52:append_6a1(ea,na,ga,Dh,Qh,Rh,ha);
-L54:if(*ea!=0){
-ti=push_refused_bbc(1,yh,xh,ea[4],r4(ea+8),ha,ha+24);
-Oh=1;
-Ph=ti;
-goto L48;}
-ni=r8(ha+8);
-if(r8(ha+16)==ni){
-oi=grow_amortized_68b(ha,1);
-if(!oi)goto L47;
-pi=r8(ha+8);}
-else pi=ni;
-*(rp(ha)+pi)=10;
-qi=pi+1;
-w8(ha+8,qi);
-ri=qi;
-si=uh;
+if(ri>=21){
+if(qi[2]==78){
+si=qi[3];
+if((u8)(si-49)>=9){
+wi=3;
+xi=3;
+yi=si;
 goto L55;}
-L44:ui=push_unnamed_383(yh,xh,ha,ha+24);
-Oh=1;
-Ph=ui;
-L48:if(Ph==0){
-ri=r8(ha+8);
-si=Oh;
-goto L55;}
-L47:w8(ha+8,umin64(r8(ha+8),zh));
-w8(ha+32,umin64(r8(ha+32),Ah));
-vi=write_120(ha,d,e);
-wi=r8(ha+16)==0;
-if(vi.f0==0){
-if(!wi)port_rattle_dealloc(rp(ha));
-if(r8(ha+40)==0){
-xi=ja;
-yi=2;
-zi=1;
-goto L56;}
-Ai=ja;
-Bi=2;
-Ci=1;
-goto L57;}
-Di=vi.f1;
-if(!wi)port_rattle_dealloc(rp(ha));
-if(r8(ha+40)==0){
-xi=ia;
-yi=Di;
-zi=1;
-goto L56;}
-Ai=ia;
+ti=si;
+ui=3;
+vi=3;
+L56:zi=vi+9;
+Ai=vi;
+Bi=0;
+L57:Ci=*(qi+Ai)-48;
+if(Ci<10){
+Di=Bi*10+Ci;
+Ei=Ai+1;
+if(Ei-vi<9){
+Ai=Ei;
 Bi=Di;
-Ci=1;
-goto L57;
-L55:if(!(ri<4096&&r8(ha+32)<4096)){
-Ei=write_120(ha,d,e);
-if(Ei.f0!=0){
-Fi=Ei.f1;
+goto L57;}
+if(zi<ri){
+if((u8)(*(qi+zi)-48)<10){
+wi=vi;
+xi=ui;
+yi=ti;
+goto L55;}
+Fi=Di;
+Gi=zi;}
+else{
+Fi=Di;
+Gi=zi;}}
+else{
+Fi=Bi;
+Gi=Ai;}
+Hi=Gi+Fi;
+if(Hi+17>=ri){
+if(Hi>=ri)goto L58;
+if(*(qi+Hi)!=69)goto L58;
+Ji=Hi+1;
+if(ri==Ji){
+if(vi==3)goto L58;
+Ki=vi;
+Li=ri;
+goto L59;}
+if(vi==3||(ri-Ji<2||*(qi+(i64)Ji)!=46))goto L58;
+Ki=vi;
+Li=Ji;
+goto L59;}
+Ii=*(qi+Hi);
+if((u8)(Ii-49)<9){
+ti=Ii;
+ui=vi;
+vi=Hi;
+goto L56;}
+wi=Hi;
+xi=vi;
+yi=Ii;
+L55:if(!((wi<ri)&(yi==69)))goto L58;
+Mi=wi+1;
+if(ri==Mi){
+if(xi==3)goto L58;
+Ki=xi;
+Li=ri;}
+else{
+if(xi==3||(ri-Mi<2||*(qi+(i64)Mi)!=46))goto L58;
+Ki=xi;
+Li=Mi;}
+L59:append_named_795(ea,na,ga,di,qi,ri,Ki,Li,ha);
+goto L60;}}
+L58:append_6a1(ea,na,ga,di,qi,ri,ha);
+L60:if(*ea!=0){
+Ti=push_refused_bbc(1,Yh,Xh,ea[4],r4(ea+8),ha,ha+24);
+oi=1;
+pi=Ti;
+goto L54;}
+Ni=r8(ha+8);
+if(r8(ha+16)==Ni){
+Oi=grow_amortized_68b(ha,1);
+if(!Oi)goto L53;
+Pi=r8(ha+8);}
+else Pi=Ni;
+*(rp(ha)+Pi)=10;
+Qi=Pi+1;
+w8(ha+8,Qi);
+Ri=Qi;
+Si=Uh;
+goto L61;}
+L50:Ui=push_unnamed_383(Yh,Xh,ha,ha+24);
+oi=1;
+pi=Ui;
+L54:if(pi==0){
+Ri=r8(ha+8);
+Si=oi;
+goto L61;}
+L53:w8(ha+8,umin64(r8(ha+8),Zh));
+w8(ha+32,umin64(r8(ha+32),ai));
+Vi=write_120(ha,d,e);
+Wi=r8(ha+16)==0;
+if(Vi.f0==0){
+if(!Wi)port_rattle_dealloc(rp(ha));
+if(r8(ha+40)==0){
+Xi=ja;
+Yi=2;
+Zi=1;
+goto L62;}
+aj=ja;
+bj=2;
+cj=1;
+goto L63;}
+dj=Vi.f1;
+if(!Wi)port_rattle_dealloc(rp(ha));
+if(r8(ha+40)==0){
+Xi=ia;
+Yi=dj;
+Zi=1;
+goto L62;}
+aj=ia;
+bj=dj;
+cj=1;
+goto L63;
+L61:if(!(Ri<4096&&r8(ha+32)<4096)){
+ej=write_120(ha,d,e);
+if(ej.f0!=0){
+fj=ej.f1;
 if(r8(ha+16)!=0)port_rattle_dealloc(rp(ha));
 if(r8(ha+40)==0){
-xi=ka;
-yi=Fi;
-zi=1;
-goto L56;}
-Ai=ka;
-Bi=Fi;
-Ci=1;
-goto L57;}}
-Gi=vh+1;
-if(Gi!=c){
-uh=si;
-vh=Gi;
-goto L43;}
-Hi=write_120(ha,d,e);
-Ii=r8(ha+16)==0;
-if(Hi.f0==0){
-if(!Ii)port_rattle_dealloc(rp(ha));
+Xi=ka;
+Yi=fj;
+Zi=1;
+goto L62;}
+aj=ka;
+bj=fj;
+cj=1;
+goto L63;}}
+gj=Vh+1;
+if(gj!=c){
+Uh=Si;
+Vh=gj;
+goto L49;}
+hj=write_120(ha,d,e);
+ij=r8(ha+16)==0;
+if(hj.f0==0){
+if(!ij)port_rattle_dealloc(rp(ha));
 if(r8(ha+40)==0){
-xi=ma;
-yi=si;
-zi=0;
-goto L56;}
-Ai=ma;
-Bi=si;
-Ci=0;}
+Xi=ma;
+Yi=Si;
+Zi=0;
+goto L62;}
+aj=ma;
+bj=Si;
+cj=0;}
 else{
-Ji=Hi.f1;
-if(!Ii)port_rattle_dealloc(rp(ha));
+jj=hj.f1;
+if(!ij)port_rattle_dealloc(rp(ha));
 if(r8(ha+40)==0){
-xi=la;
-yi=Ji;
-zi=1;
-goto L56;}
-Ai=la;
-Bi=Ji;
-Ci=1;}
-L57:port_rattle_dealloc(rp(ha+24));
-xi=Ai;
-yi=Bi;
-zi=Ci;
-L56:memcpy(xi,ga,1544);
-drop_816(xi);
-Ki=zi;
-Li=yi;}
+Xi=la;
+Yi=jj;
+Zi=1;
+goto L62;}
+aj=la;
+bj=jj;
+cj=1;}
+L63:port_rattle_dealloc(rp(ha+24));
+Xi=aj;
+Yi=bj;
+Zi=cj;
+L62:memcpy(Xi,ga,1544);
+drop_816(Xi);
+kj=Zi;
+lj=Yi;}
 else{
 w8(oa,r8(na));
 oa[8]=kb;
 oa[9]=1;
 z48(ca+1608);
 z48(da);
-Mi=(u64)(u8*)65536;
+mj=(u64)(u8*)65536;
 wp(ca,(u8*)65536);
 z24(ca+8);
 wp(ca+32,(u8*)65536);
@@ -38039,9 +38116,9 @@ wp(ca+536,(u8*)65536);
 z32(ca+544);
 wp(ca+576,(u8*)65536);
 z104(ca+584);
-w8(ca+688,Mi);
+w8(ca+688,mj);
 z40(ca+696);
-w8(ca+736,Mi);
+w8(ca+736,mj);
 z16(ca+744);
 wp(ca+760,(u8*)65536);
 z32(ca+768);
@@ -38083,9 +38160,9 @@ wp(ca+1352,(u8*)65536);
 z16(ca+1360);
 wp(ca+1376,(u8*)65536);
 z48(ca+1384);
-w8(ca+1432,Mi);
+w8(ca+1432,mj);
 z40(ca+1440);
-w8(ca+1480,Mi);
+w8(ca+1480,mj);
 z16(ca+1488);
 wp(ca+1504,(u8*)65536);
 z32(ca+1512);
@@ -38101,244 +38178,324 @@ wp(da,(u8*)65536);
 z16(da+8);
 wp(da+24,(u8*)65536);
 z16(da+32);
-Ni=lb&1;
-Oi=0;
-Pi=0;
-L58:Qi=b+(i64)(Pi<<4);
-Ri=r8(Qi+8);
-Si=rp(Qi);
-Ti=r8(da+8);
-Ui=r8(da+32);
-if(Ri-65537>=0xffffffffffff0001u){
-Vi=*Si==95;
-if(Ri==2){
-if(!Vi)goto L59;
-switch(Si[1]){
-case 90:Wi=0;
-goto L60;
+nj=lb&1;
+oj=0;
+pj=0;
+L64:qj=b+(i64)(pj<<4);
+rj=r8(qj+8);
+sj=rp(qj);
+tj=r8(da+8);
+uj=r8(da+32);
+if(rj-65537>=0xffffffffffff0001u){
+vj=*sj==95;
+if(rj==2){
+if(!vj)goto L65;
+switch(sj[1]){
+case 90:wj=0;
+goto L66;
 case 82:break;
-default:goto L59;
+default:goto L65;
 }}
 else{
-if(!Vi)goto L59;
-switch(Si[1]){
-case 90:Wi=0;
-goto L60;
+if(!vj)goto L65;
+switch(sj[1]){
+case 90:wj=0;
+goto L66;
 case 82:break;
-case 95:switch(Si[2]){
-case 90:Wi=0x100000000u;
-goto L60;
-case 82:Wi=0x100000001u;
-goto L60;
-default:goto L59;
+case 95:switch(sj[2]){
+case 90:wj=0x100000000u;
+goto L66;
+case 82:wj=0x100000001u;
+goto L66;
+default:goto L65;
 }
 break;
-default:goto L59;
+default:goto L65;
 }}
-Wi=1;
-L60:Xi=Wi;
-Yi=Wi>>32;
-Zi=Si+(i64)Yi;
-aj=Ri-Yi;
-if(!Ni){
-z12(Y);
-append_55b(Y,oa,ca,Xi,Zi,aj,da);
-if(*Y!=0){
-zj=push_refused_bbc(1,Si,Ri,Y[4],r4(Y+8),da,da+24);
-rj=1;
-sj=zj;
-goto L61;}
-tj=r8(da+8);
-if(r8(da+16)==tj){
-uj=grow_amortized_68b(da,1);
-if(!uj)goto L62;
-vj=r8(da+8);}
-else vj=tj;
-*(rp(da)+vj)=10;
-wj=vj+1;
-w8(da+8,wj);
-xj=wj;
-yj=Oi;
-goto L63;}
+wj=1;
+L66:xj=wj;
+yj=wj>>32;
+if(nj){
+zj=sj+(i64)yj;
+Aj=rj-yj;
 z16(Z);
-demangle_3c5(Z,oa,ca,Xi,Zi,aj,da);
-bj=r4(Z+8);
+demangle_3c5(Z,oa,ca,xj,zj,Aj,da);
+Bj=r4(Z+8);
 switch(*Z){
-case 0:cj=r4(Z+4);
-dj=r4(Z+12);
-ej=rewrite_43c(oa,ca+1544,Xi,Zi,aj,Ti,da);
-if(ej==0){
-w4(aa,cj);
-w4(aa+4,bj);
-w4(aa+8,dj);
-fj=r8(da+8);
-if(r8(da+16)==fj){
-gj=grow_amortized_68b(da,1);
-if(!gj)goto L64;
-hj=r8(da+8);}
-else hj=fj;
-*(rp(da)+hj)=10;
-w8(da+8,hj+1);
-ij=push_counts_ddb(aa,da);
-jj=!(ij&1);
-kj=ij;
-goto L65;}
-lj=4;
-mj=0;
+case 0:Cj=r4(Z+4);
+Dj=r4(Z+12);
+Ej=rewrite_or_remove_1ed(oa+8,ca+1544,xj,zj,Aj,tj,da);
+if(Ej==0){
+w4(aa,Cj);
+w4(aa+4,Bj);
+w4(aa+8,Dj);
+Fj=r8(da+8);
+if(r8(da+16)==Fj){
+Gj=grow_amortized_68b(da,1);
+if(!Gj)goto L67;
+Hj=r8(da+8);}
+else Hj=Fj;
+*(rp(da)+Hj)=10;
+w8(da+8,Hj+1);
+Ij=push_counts_ddb(aa,da);
+Jj=!(Ij&1);
+Kj=Ij;
+goto L68;}
+Lj=4;
+Mj=0;
 break;
-case 1:nj=r4(Z+12);
+case 1:Nj=r4(Z+12);
 w4(ba,r4(Z+4));
-w4(ba+4,bj);
-w4(ba+8,nj);
-oj=push_refused_bbc(1,Si,Ri,3,0,da,da+24);
-if(oj&1)goto L64;
-pj=push_counts_ddb(ba,da);
-jj=0;
-kj=pj;
-goto L65;
-case 2:lj=Z[4];
-mj=bj;
+w4(ba+4,Bj);
+w4(ba+8,Nj);
+Oj=push_refused_bbc(1,sj,rj,3,0,da,da+24);
+if(Oj&1)goto L67;
+Pj=push_counts_ddb(ba,da);
+Jj=0;
+Kj=Pj;
+goto L68;
+case 2:Lj=Z[4];
+Mj=Bj;
 break;
 default:NEVER;
 }
-qj=push_refused_bbc(1,Si,Ri,lj,mj,da,da+24);
-jj=0;
-kj=qj;
-goto L65;
-L64:goto L62;
-L65:rj=(kj==0&&jj)?Oi:1;
-sj=kj;
-goto L61;}
-L59:Aj=push_unnamed_383(Si,Ri,da,da+24);
-rj=1;
-sj=Aj;
-L61:if(sj==0){
-xj=r8(da+8);
-yj=rj;
-goto L63;}
-L62:w8(da+8,umin64(r8(da+8),Ti));
-w8(da+32,umin64(r8(da+32),Ui));
-Bj=write_120(da,d,e);
-Cj=r8(da+16)==0;
-if(Bj.f0==0){
-if(!Cj)port_rattle_dealloc(rp(da));
+Qj=push_refused_bbc(1,sj,rj,Lj,Mj,da,da+24);
+Jj=0;
+Kj=Qj;
+goto L68;
+L67:goto L69;
+L68:Rj=(Kj==0&&Jj)?oj:1;
+Sj=Kj;
+goto L70;}
+Tj=sj+(i64)yj;
+Uj=rj-yj;
+z12(Y);
+if(Uj>=21){
+if(Tj[2]==78){
+Vj=Tj[3];
+if((u8)(Vj-49)>=9){
+Zj=3;
+ak=3;
+bk=Vj;
+goto L71;}
+Wj=Vj;
+Xj=3;
+Yj=3;
+L72:ck=Yj+9;
+dk=Yj;
+ek=0;
+L73:fk=*(Tj+dk)-48;
+if(fk<10){
+gk=ek*10+fk;
+hk=dk+1;
+if(hk-Yj<9){
+dk=hk;
+ek=gk;
+goto L73;}
+if(ck<Uj){
+if((u8)(*(Tj+ck)-48)<10){
+Zj=Yj;
+ak=Xj;
+bk=Wj;
+goto L71;}
+ik=gk;
+jk=ck;}
+else{
+ik=gk;
+jk=ck;}}
+else{
+ik=ek;
+jk=dk;}
+kk=jk+ik;
+if(kk+17>=Uj){
+if(kk>=Uj)goto L74;
+if(*(Tj+kk)!=69)goto L74;
+mk=kk+1;
+if(Uj==mk){
+if(Yj==3)goto L74;
+nk=Yj;
+ok=Uj;
+goto L75;}
+if(Yj==3||(Uj-mk<2||*(Tj+(i64)mk)!=46))goto L74;
+nk=Yj;
+ok=mk;
+goto L75;}
+lk=*(Tj+kk);
+if((u8)(lk-49)<9){
+Wj=lk;
+Xj=Yj;
+Yj=kk;
+goto L72;}
+Zj=kk;
+ak=Yj;
+bk=lk;
+L71:if(!((Zj<Uj)&(bk==69)))goto L74;
+pk=Zj+1;
+if(Uj==pk){
+if(ak==3)goto L74;
+nk=ak;
+ok=Uj;}
+else{
+if(ak==3||(Uj-pk<2||*(Tj+(i64)pk)!=46))goto L74;
+nk=ak;
+ok=pk;}
+L75:append_named_795(Y,oa,ca,xj,Tj,Uj,nk,ok,da);
+goto L76;}}
+L74:append_6a1(Y,oa,ca,xj,Tj,Uj,da);
+L76:if(*Y==0){
+qk=rewrite_or_remove_1ed(oa+8,ca+1544,xj,Tj,Uj,tj,da);
+if(!(qk&1)){
+tk=r8(da+8);
+if(r8(da+16)==tk){
+uk=grow_amortized_68b(da,1);
+if(!uk)goto L69;
+vk=r8(da+8);}
+else vk=tk;
+*(rp(da)+vk)=10;
+wk=vk+1;
+w8(da+8,wk);
+xk=wk;
+yk=oj;
+goto L77;}
+rk=4;
+sk=0;}
+else{
+rk=Y[4];
+sk=r4(Y+8);}
+zk=push_refused_bbc(1,sj,rj,rk,sk,da,da+24);
+Rj=1;
+Sj=zk;
+goto L70;}
+L65:Ak=push_unnamed_383(sj,rj,da,da+24);
+Rj=1;
+Sj=Ak;
+L70:if(Sj==0){
+xk=r8(da+8);
+yk=Rj;
+goto L77;}
+L69:w8(da+8,umin64(r8(da+8),tj));
+w8(da+32,umin64(r8(da+32),uj));
+Bk=write_120(da,d,e);
+Ck=r8(da+16)==0;
+if(Bk.f0==0){
+if(!Ck)port_rattle_dealloc(rp(da));
 if(r8(da+40)!=0)port_rattle_dealloc(rp(da+24));
-Dj=rp(ca+1544);
-Ej=rp(ca+1584);
-Fj=r8(ca+1600);
-Gj=rp(ca+1608);
-Hj=r8(ca+1624);
-Ij=rp(ca+1632);
-Jj=r8(ca+1648);
-Kj=r8(ca+1560);
+Dk=rp(ca+1544);
+Ek=rp(ca+1584);
+Fk=r8(ca+1600);
+Gk=rp(ca+1608);
+Hk=r8(ca+1624);
+Ik=rp(ca+1632);
+Jk=r8(ca+1648);
+Kk=r8(ca+1560);
 memcpy(X,ca,1544);
 drop_816(X);
-if(Kj!=0)port_rattle_dealloc(Dj);
-if(Fj!=0)port_rattle_dealloc(Ej);
-if(Hj!=0)port_rattle_dealloc(Gj);
-if(Jj!=0)port_rattle_dealloc(Ij);
-Lj=2;
-Mj=1;
-goto L66;}
-Nj=Bj.f1;
-if(!Cj)port_rattle_dealloc(rp(da));
+if(Kk!=0)port_rattle_dealloc(Dk);
+if(Fk!=0)port_rattle_dealloc(Ek);
+if(Hk!=0)port_rattle_dealloc(Gk);
+if(Jk!=0)port_rattle_dealloc(Ik);
+Lk=2;
+Mk=1;
+goto L78;}
+Nk=Bk.f1;
+if(!Ck)port_rattle_dealloc(rp(da));
 if(r8(da+40)!=0)port_rattle_dealloc(rp(da+24));
-Oj=rp(ca+1544);
-Pj=rp(ca+1584);
-Qj=r8(ca+1600);
-Rj=rp(ca+1608);
-Sj=r8(ca+1624);
-Tj=rp(ca+1632);
-Uj=r8(ca+1648);
-Vj=r8(ca+1560);
+Ok=rp(ca+1544);
+Pk=rp(ca+1584);
+Qk=r8(ca+1600);
+Rk=rp(ca+1608);
+Sk=r8(ca+1624);
+Tk=rp(ca+1632);
+Uk=r8(ca+1648);
+Vk=r8(ca+1560);
 memcpy(W,ca,1544);
 drop_816(W);
-if(Vj!=0)port_rattle_dealloc(Oj);
-if(Qj!=0)port_rattle_dealloc(Pj);
-if(Sj!=0)port_rattle_dealloc(Rj);
-if(Uj!=0)port_rattle_dealloc(Tj);
-Lj=Nj;
-Mj=1;
-goto L66;
-L63:if(!(xj<4096&&r8(da+32)<4096)){
-Wj=write_120(da,d,e);
-if(Wj.f0!=0){
-Xj=Wj.f1;
+if(Vk!=0)port_rattle_dealloc(Ok);
+if(Qk!=0)port_rattle_dealloc(Pk);
+if(Sk!=0)port_rattle_dealloc(Rk);
+if(Uk!=0)port_rattle_dealloc(Tk);
+Lk=Nk;
+Mk=1;
+goto L78;
+L77:if(!(xk<4096&&r8(da+32)<4096)){
+Wk=write_120(da,d,e);
+if(Wk.f0!=0){
+Xk=Wk.f1;
 if(r8(da+16)!=0)port_rattle_dealloc(rp(da));
 if(r8(da+40)!=0)port_rattle_dealloc(rp(da+24));
-Yj=rp(ca+1544);
-Zj=rp(ca+1584);
-ak=r8(ca+1600);
-bk=rp(ca+1608);
-ck=r8(ca+1624);
-dk=rp(ca+1632);
-ek=r8(ca+1648);
-fk=r8(ca+1560);
+Yk=rp(ca+1544);
+Zk=rp(ca+1584);
+al=r8(ca+1600);
+bl=rp(ca+1608);
+cl=r8(ca+1624);
+dl=rp(ca+1632);
+el=r8(ca+1648);
+fl=r8(ca+1560);
 memcpy(V,ca,1544);
 drop_816(V);
-if(fk!=0)port_rattle_dealloc(Yj);
-if(ak!=0)port_rattle_dealloc(Zj);
-if(ck!=0)port_rattle_dealloc(bk);
-if(ek!=0)port_rattle_dealloc(dk);
-Lj=Xj;
-Mj=1;
-goto L66;}}
-gk=Pi+1;
-if(gk!=c){
-Oi=yj;
-Pi=gk;
-goto L58;}
-hk=write_120(da,d,e);
-ik=r8(da+16)==0;
-if(hk.f0==0){
-if(!ik)port_rattle_dealloc(rp(da));
+if(fl!=0)port_rattle_dealloc(Yk);
+if(al!=0)port_rattle_dealloc(Zk);
+if(cl!=0)port_rattle_dealloc(bl);
+if(el!=0)port_rattle_dealloc(dl);
+Lk=Xk;
+Mk=1;
+goto L78;}}
+gl=pj+1;
+if(gl!=c){
+oj=yk;
+pj=gl;
+goto L64;}
+hl=write_120(da,d,e);
+il=r8(da+16)==0;
+if(hl.f0==0){
+if(!il)port_rattle_dealloc(rp(da));
 if(r8(da+40)!=0)port_rattle_dealloc(rp(da+24));
-jk=rp(ca+1544);
-kk=rp(ca+1584);
-lk=r8(ca+1600);
-mk=rp(ca+1608);
-nk=r8(ca+1624);
-ok=rp(ca+1632);
-pk=r8(ca+1648);
-qk=r8(ca+1560);
+jl=rp(ca+1544);
+kl=rp(ca+1584);
+ll=r8(ca+1600);
+ml=rp(ca+1608);
+nl=r8(ca+1624);
+ol=rp(ca+1632);
+pl=r8(ca+1648);
+ql=r8(ca+1560);
 memcpy(U,ca,1544);
 drop_816(U);
-if(qk!=0)port_rattle_dealloc(jk);
-if(lk!=0)port_rattle_dealloc(kk);
-if(nk!=0)port_rattle_dealloc(mk);
-if(pk!=0)port_rattle_dealloc(ok);
-Lj=yj;
-Mj=0;}
+if(ql!=0)port_rattle_dealloc(jl);
+if(ll!=0)port_rattle_dealloc(kl);
+if(nl!=0)port_rattle_dealloc(ml);
+if(pl!=0)port_rattle_dealloc(ol);
+Lk=yk;
+Mk=0;}
 else{
-rk=hk.f1;
-if(!ik)port_rattle_dealloc(rp(da));
+rl=hl.f1;
+if(!il)port_rattle_dealloc(rp(da));
 if(r8(da+40)!=0)port_rattle_dealloc(rp(da+24));
-sk=rp(ca+1544);
-tk=rp(ca+1584);
-uk=r8(ca+1600);
-vk=rp(ca+1608);
-wk=r8(ca+1624);
-xk=rp(ca+1632);
-yk=r8(ca+1648);
-zk=r8(ca+1560);
+sl=rp(ca+1544);
+tl=rp(ca+1584);
+ul=r8(ca+1600);
+vl=rp(ca+1608);
+wl=r8(ca+1624);
+xl=rp(ca+1632);
+yl=r8(ca+1648);
+zl=r8(ca+1560);
 memcpy(T,ca,1544);
 drop_816(T);
-if(zk!=0)port_rattle_dealloc(sk);
-if(uk!=0)port_rattle_dealloc(tk);
-if(wk!=0)port_rattle_dealloc(vk);
-if(yk!=0)port_rattle_dealloc(xk);
-Lj=rk;
-Mj=1;}
-L66:Ki=Mj;
-Li=Lj;}
-ye=Ki;
-ze=Li;}
+if(zl!=0)port_rattle_dealloc(sl);
+if(ul!=0)port_rattle_dealloc(tl);
+if(wl!=0)port_rattle_dealloc(vl);
+if(yl!=0)port_rattle_dealloc(xl);
+Lk=rl;
+Mk=1;}
+L78:kj=Mk;
+lj=Lk;}
+Ye=kj;
+Ze=lj;}
 else{
 z12(S);
 w4(R,hb);
 R[4]=ib;
 z3(R+5);
-if(rh){
+if(Rh){
 z32(K+1512);
 z48(L);
 zero_all(M,1544);
@@ -38346,7 +38503,7 @@ zero_all(N,1544);
 zero_all(O,1544);
 zero_all(P,1544);
 zero_all(Q,1544);
-Ak=(u64)(u8*)65536;
+Al=(u64)(u8*)65536;
 wp(K,(u8*)65536);
 z24(K+8);
 wp(K+32,(u8*)65536);
@@ -38381,9 +38538,9 @@ wp(K+536,(u8*)65536);
 z32(K+544);
 wp(K+576,(u8*)65536);
 z104(K+584);
-w8(K+688,Ak);
+w8(K+688,Al);
 z40(K+696);
-w8(K+736,Ak);
+w8(K+736,Al);
 z16(K+744);
 wp(K+760,(u8*)65536);
 z32(K+768);
@@ -38425,9 +38582,9 @@ wp(K+1352,(u8*)65536);
 z16(K+1360);
 wp(K+1376,(u8*)65536);
 z48(K+1384);
-w8(K+1432,Ak);
+w8(K+1432,Al);
 z40(K+1440);
-w8(K+1480,Ak);
+w8(K+1480,Al);
 z16(K+1488);
 wp(K+1504,(u8*)65536);
 z32(K+1512);
@@ -38435,183 +38592,183 @@ wp(L,(u8*)65536);
 z16(L+8);
 wp(L+24,(u8*)65536);
 z16(L+32);
-Bk=lb&1;
-Ck=0;
-Dk=0;
-L67:Ek=b+(i64)(Dk<<4);
-Fk=r8(Ek+8);
-Gk=rp(Ek);
-Hk=r8(L+8);
-Ik=r8(L+32);
-if(Fk-65537>=0xffffffffffff0001u){
-Jk=*Gk==95;
-if(Fk==2){
-if(!Jk)goto L68;
-switch(Gk[1]){
-case 90:Kk=0;
-goto L69;
+Bl=lb&1;
+Cl=0;
+Dl=0;
+L79:El=b+(i64)(Dl<<4);
+Fl=r8(El+8);
+Gl=rp(El);
+Hl=r8(L+8);
+Il=r8(L+32);
+if(Fl-65537>=0xffffffffffff0001u){
+Jl=*Gl==95;
+if(Fl==2){
+if(!Jl)goto L80;
+switch(Gl[1]){
+case 90:Kl=0;
+goto L81;
 case 82:break;
-default:goto L68;
+default:goto L80;
 }}
 else{
-if(!Jk)goto L68;
-switch(Gk[1]){
-case 90:Kk=0;
-goto L69;
+if(!Jl)goto L80;
+switch(Gl[1]){
+case 90:Kl=0;
+goto L81;
 case 82:break;
-case 95:switch(Gk[2]){
-case 90:Kk=0x100000000u;
-goto L69;
-case 82:Kk=0x100000001u;
-goto L69;
-default:goto L68;
+case 95:switch(Gl[2]){
+case 90:Kl=0x100000000u;
+goto L81;
+case 82:Kl=0x100000001u;
+goto L81;
+default:goto L80;
 }
 break;
-default:goto L68;
+default:goto L80;
 }}
-Kk=1;
-L69:Lk=Kk;
-Mk=Kk>>32;
-if(!Bk){
+Kl=1;
+L81:Ll=Kl;
+Ml=Kl>>32;
+if(!Bl){
 z12(I);
-append_6a1(I,R,K,Lk,Gk+(i64)Mk,Fk-Mk,L);
+append_6a1(I,R,K,Ll,Gl+(i64)Ml,Fl-Ml,L);
 if(*I!=0){
-el=push_refused_bbc(1,Gk,Fk,I[4],r4(I+8),L,L+24);
-Wk=1;
-Xk=el;
-goto L70;}
-Yk=r8(L+8);
-if(r8(L+16)==Yk){
-Zk=grow_amortized_68b(L,1);
-if(!Zk)goto L71;
-al=r8(L+8);}
-else al=Yk;
-*(rp(L)+al)=10;
-bl=al+1;
-w8(L+8,bl);
-cl=bl;
-dl=Ck;
-goto L72;}
-demangle_686(J,R,K,Lk,Gk+(i64)Mk,Fk-Mk,L);
+em=push_refused_bbc(1,Gl,Fl,I[4],r4(I+8),L,L+24);
+Wl=1;
+Xl=em;
+goto L82;}
+Yl=r8(L+8);
+if(r8(L+16)==Yl){
+Zl=grow_amortized_68b(L,1);
+if(!Zl)goto L83;
+am=r8(L+8);}
+else am=Yl;
+*(rp(L)+am)=10;
+bm=am+1;
+w8(L+8,bm);
+cm=bm;
+dm=Cl;
+goto L84;}
+demangle_686(J,R,K,Ll,Gl+(i64)Ml,Fl-Ml,L);
 switch(*J){
-case 0:Nk=r8(L+8);
-if(r8(L+16)==Nk){
-Ok=grow_amortized_68b(L,1);
-if(!Ok)break;
-Pk=r8(L+8);}
-else Pk=Nk;
-*(rp(L)+Pk)=10;
-w8(L+8,Pk+1);
-Qk=push_counts_ddb(J+4,L);
-Rk=!(Qk&1);
-Sk=Qk;
-goto L73;
-case 1:Tk=push_refused_bbc(1,Gk,Fk,3,0,L,L+24);
-if(!(Tk&1)){
-Uk=push_counts_ddb(J+4,L);
-Rk=0;
-Sk=Uk;
-goto L73;}
+case 0:Nl=r8(L+8);
+if(r8(L+16)==Nl){
+Ol=grow_amortized_68b(L,1);
+if(!Ol)break;
+Pl=r8(L+8);}
+else Pl=Nl;
+*(rp(L)+Pl)=10;
+w8(L+8,Pl+1);
+Ql=push_counts_ddb(J+4,L);
+Rl=!(Ql&1);
+Sl=Ql;
+goto L85;
+case 1:Tl=push_refused_bbc(1,Gl,Fl,3,0,L,L+24);
+if(!(Tl&1)){
+Ul=push_counts_ddb(J+4,L);
+Rl=0;
+Sl=Ul;
+goto L85;}
 break;
-case 2:Vk=push_refused_bbc(1,Gk,Fk,J[4],r4(J+8),L,L+24);
-Rk=0;
-Sk=Vk;
-goto L73;
+case 2:Vl=push_refused_bbc(1,Gl,Fl,J[4],r4(J+8),L,L+24);
+Rl=0;
+Sl=Vl;
+goto L85;
 default:NEVER;
 }
-goto L71;
-L73:Wk=(Sk==0&&Rk)?Ck:1;
-Xk=Sk;
-goto L70;}
-L68:fl=push_unnamed_383(Gk,Fk,L,L+24);
-Wk=1;
-Xk=fl;
-L70:if(Xk==0){
-cl=r8(L+8);
-dl=Wk;
-goto L72;}
-L71:w8(L+8,umin64(r8(L+8),Hk));
-w8(L+32,umin64(r8(L+32),Ik));
-gl=write_120(L,d,e);
-hl=r8(L+16)==0;
-if(gl.f0==0){
-if(!hl)port_rattle_dealloc(rp(L));
+goto L83;
+L85:Wl=(Sl==0&&Rl)?Cl:1;
+Xl=Sl;
+goto L82;}
+L80:fm=push_unnamed_383(Gl,Fl,L,L+24);
+Wl=1;
+Xl=fm;
+L82:if(Xl==0){
+cm=r8(L+8);
+dm=Wl;
+goto L84;}
+L83:w8(L+8,umin64(r8(L+8),Hl));
+w8(L+32,umin64(r8(L+32),Il));
+gm=write_120(L,d,e);
+hm=r8(L+16)==0;
+if(gm.f0==0){
+if(!hm)port_rattle_dealloc(rp(L));
 if(r8(L+40)==0){
-il=N;
-jl=2;
-kl=1;
-goto L74;}
-ll=N;
-ml=2;
-nl=1;
-goto L75;}
-ol=gl.f1;
-if(!hl)port_rattle_dealloc(rp(L));
+im=N;
+jm=2;
+km=1;
+goto L86;}
+lm=N;
+mm=2;
+nm=1;
+goto L87;}
+om=gm.f1;
+if(!hm)port_rattle_dealloc(rp(L));
 if(r8(L+40)==0){
-il=M;
-jl=ol;
-kl=1;
-goto L74;}
-ll=M;
-ml=ol;
-nl=1;
-goto L75;
-L72:if(!(cl<4096&&r8(L+32)<4096)){
-pl=write_120(L,d,e);
-if(pl.f0!=0){
-ql=pl.f1;
+im=M;
+jm=om;
+km=1;
+goto L86;}
+lm=M;
+mm=om;
+nm=1;
+goto L87;
+L84:if(!(cm<4096&&r8(L+32)<4096)){
+pm=write_120(L,d,e);
+if(pm.f0!=0){
+qm=pm.f1;
 if(r8(L+16)!=0)port_rattle_dealloc(rp(L));
 if(r8(L+40)==0){
-il=O;
-jl=ql;
-kl=1;
-goto L74;}
-ll=O;
-ml=ql;
-nl=1;
-goto L75;}}
-rl=Dk+1;
-if(rl!=c){
-Ck=dl;
-Dk=rl;
-goto L67;}
-sl=write_120(L,d,e);
-tl=r8(L+16)==0;
-if(sl.f0==0){
-if(!tl)port_rattle_dealloc(rp(L));
+im=O;
+jm=qm;
+km=1;
+goto L86;}
+lm=O;
+mm=qm;
+nm=1;
+goto L87;}}
+rm=Dl+1;
+if(rm!=c){
+Cl=dm;
+Dl=rm;
+goto L79;}
+sm=write_120(L,d,e);
+tm=r8(L+16)==0;
+if(sm.f0==0){
+if(!tm)port_rattle_dealloc(rp(L));
 if(r8(L+40)==0){
-il=Q;
-jl=dl;
-kl=0;
-goto L74;}
-ll=Q;
-ml=dl;
-nl=0;}
+im=Q;
+jm=dm;
+km=0;
+goto L86;}
+lm=Q;
+mm=dm;
+nm=0;}
 else{
-ul=sl.f1;
-if(!tl)port_rattle_dealloc(rp(L));
+um=sm.f1;
+if(!tm)port_rattle_dealloc(rp(L));
 if(r8(L+40)==0){
-il=P;
-jl=ul;
-kl=1;
-goto L74;}
-ll=P;
-ml=ul;
-nl=1;}
-L75:port_rattle_dealloc(rp(L+24));
-il=ll;
-jl=ml;
-kl=nl;
-L74:memcpy(il,K,1544);
-drop_816(il);
-vl=kl;
-wl=jl;}
+im=P;
+jm=um;
+km=1;
+goto L86;}
+lm=P;
+mm=um;
+nm=1;}
+L87:port_rattle_dealloc(rp(L+24));
+im=lm;
+jm=mm;
+km=nm;
+L86:memcpy(im,K,1544);
+drop_816(im);
+vm=km;
+wm=jm;}
 else{
 w8(S,r8(R));
 S[8]=kb;
 z48(G+1608);
 z48(H);
-xl=(u64)(u8*)65536;
+xm=(u64)(u8*)65536;
 wp(G,(u8*)65536);
 z24(G+8);
 wp(G+32,(u8*)65536);
@@ -38646,9 +38803,9 @@ wp(G+536,(u8*)65536);
 z32(G+544);
 wp(G+576,(u8*)65536);
 z104(G+584);
-w8(G+688,xl);
+w8(G+688,xm);
 z40(G+696);
-w8(G+736,xl);
+w8(G+736,xm);
 z16(G+744);
 wp(G+760,(u8*)65536);
 z32(G+768);
@@ -38690,9 +38847,9 @@ wp(G+1352,(u8*)65536);
 z16(G+1360);
 wp(G+1376,(u8*)65536);
 z48(G+1384);
-w8(G+1432,xl);
+w8(G+1432,xm);
 z40(G+1440);
-w8(G+1480,xl);
+w8(G+1480,xm);
 z16(G+1488);
 wp(G+1504,(u8*)65536);
 z32(G+1512);
@@ -38708,246 +38865,246 @@ wp(H,(u8*)65536);
 z16(H+8);
 wp(H+24,(u8*)65536);
 z16(H+32);
-yl=lb&1;
-zl=0;
-Al=0;
-L76:Bl=b+(i64)(Al<<4);
-Cl=r8(Bl+8);
-Dl=rp(Bl);
-El=r8(H+8);
-Fl=r8(H+32);
-if(Cl-65537>=0xffffffffffff0001u){
-Gl=*Dl==95;
-if(Cl==2){
-if(!Gl)goto L77;
-switch(Dl[1]){
-case 90:Hl=0;
-goto L78;
+ym=lb&1;
+zm=0;
+Am=0;
+L88:Bm=b+(i64)(Am<<4);
+Cm=r8(Bm+8);
+Dm=rp(Bm);
+Em=r8(H+8);
+Fm=r8(H+32);
+if(Cm-65537>=0xffffffffffff0001u){
+Gm=*Dm==95;
+if(Cm==2){
+if(!Gm)goto L89;
+switch(Dm[1]){
+case 90:Hm=0;
+goto L90;
 case 82:break;
-default:goto L77;
+default:goto L89;
 }}
 else{
-if(!Gl)goto L77;
-switch(Dl[1]){
-case 90:Hl=0;
-goto L78;
+if(!Gm)goto L89;
+switch(Dm[1]){
+case 90:Hm=0;
+goto L90;
 case 82:break;
-case 95:switch(Dl[2]){
-case 90:Hl=0x100000000u;
-goto L78;
-case 82:Hl=0x100000001u;
-goto L78;
-default:goto L77;
+case 95:switch(Dm[2]){
+case 90:Hm=0x100000000u;
+goto L90;
+case 82:Hm=0x100000001u;
+goto L90;
+default:goto L89;
 }
 break;
-default:goto L77;
+default:goto L89;
 }}
-Hl=1;
-L78:Il=Hl;
-Jl=Hl>>32;
-if(!yl){
-em=Dl+(i64)Jl;
-fm=Cl-Jl;
+Hm=1;
+L90:Im=Hm;
+Jm=Hm>>32;
+if(!ym){
+en=Dm+(i64)Jm;
+fn=Cm-Jm;
 z12(C);
-append_6a1(C,S,G,Il,em,fm,H);
+append_6a1(C,S,G,Im,en,fn,H);
 if(*C==0){
-gm=rewrite_43c(S,G+1544,Il,em,fm,El,H);
-if(!(gm&1)){
-jm=r8(H+8);
-if(r8(H+16)==jm){
-km=grow_amortized_68b(H,1);
-if(!km)goto L79;
-lm=r8(H+8);}
-else lm=jm;
-*(rp(H)+lm)=10;
-mm=lm+1;
-w8(H+8,mm);
-nm=mm;
-om=zl;
-goto L80;}
-hm=4;
-im=0;}
+gn=rewrite_or_remove_1ed(S+8,G+1544,Im,en,fn,Em,H);
+if(!(gn&1)){
+jn=r8(H+8);
+if(r8(H+16)==jn){
+kn=grow_amortized_68b(H,1);
+if(!kn)goto L91;
+ln=r8(H+8);}
+else ln=jn;
+*(rp(H)+ln)=10;
+mn=ln+1;
+w8(H+8,mn);
+nn=mn;
+on=zm;
+goto L92;}
+hn=4;
+in=0;}
 else{
-hm=C[4];
-im=r4(C+8);}
-pm=push_refused_bbc(1,Dl,Cl,hm,im,H,H+24);
-cm=1;
-dm=pm;
-goto L81;}
-Kl=Dl+(i64)Jl;
-Ll=Cl-Jl;
-demangle_686(D,S,G,Il,Kl,Ll,H);
-Ml=r4(D+8);
+hn=C[4];
+in=r4(C+8);}
+pn=push_refused_bbc(1,Dm,Cm,hn,in,H,H+24);
+cn=1;
+dn=pn;
+goto L93;}
+Km=Dm+(i64)Jm;
+Lm=Cm-Jm;
+demangle_686(D,S,G,Im,Km,Lm,H);
+Mm=r4(D+8);
 switch(*D){
-case 0:Nl=r4(D+4);
-Ol=r4(D+12);
-Pl=rewrite_43c(S,G+1544,Il,Kl,Ll,El,H);
-if(Pl==0){
-w4(E,Nl);
-w4(E+4,Ml);
-w4(E+8,Ol);
-Ql=r8(H+8);
-if(r8(H+16)==Ql){
-Rl=grow_amortized_68b(H,1);
-if(!Rl)goto L82;
-Sl=r8(H+8);}
-else Sl=Ql;
-*(rp(H)+Sl)=10;
-w8(H+8,Sl+1);
-Tl=push_counts_ddb(E,H);
-Ul=!(Tl&1);
-Vl=Tl;
-goto L83;}
-Wl=4;
-Xl=0;
+case 0:Nm=r4(D+4);
+Om=r4(D+12);
+Pm=rewrite_or_remove_1ed(S+8,G+1544,Im,Km,Lm,Em,H);
+if(Pm==0){
+w4(E,Nm);
+w4(E+4,Mm);
+w4(E+8,Om);
+Qm=r8(H+8);
+if(r8(H+16)==Qm){
+Rm=grow_amortized_68b(H,1);
+if(!Rm)goto L94;
+Sm=r8(H+8);}
+else Sm=Qm;
+*(rp(H)+Sm)=10;
+w8(H+8,Sm+1);
+Tm=push_counts_ddb(E,H);
+Um=!(Tm&1);
+Vm=Tm;
+goto L95;}
+Wm=4;
+Xm=0;
 break;
-case 1:Yl=r4(D+12);
+case 1:Ym=r4(D+12);
 w4(F,r4(D+4));
-w4(F+4,Ml);
-w4(F+8,Yl);
-Zl=push_refused_bbc(1,Dl,Cl,3,0,H,H+24);
-if(Zl&1)goto L82;
-am=push_counts_ddb(F,H);
-Ul=0;
-Vl=am;
-goto L83;
-case 2:Wl=D[4];
-Xl=Ml;
+w4(F+4,Mm);
+w4(F+8,Ym);
+Zm=push_refused_bbc(1,Dm,Cm,3,0,H,H+24);
+if(Zm&1)goto L94;
+an=push_counts_ddb(F,H);
+Um=0;
+Vm=an;
+goto L95;
+case 2:Wm=D[4];
+Xm=Mm;
 break;
 default:NEVER;
 }
-bm=push_refused_bbc(1,Dl,Cl,Wl,Xl,H,H+24);
-Ul=0;
-Vl=bm;
-goto L83;
-L82:goto L79;
-L83:cm=(Vl==0&&Ul)?zl:1;
-dm=Vl;
-goto L81;}
-L77:qm=push_unnamed_383(Dl,Cl,H,H+24);
-cm=1;
-dm=qm;
-L81:if(dm==0){
-nm=r8(H+8);
-om=cm;
-goto L80;}
-L79:w8(H+8,umin64(r8(H+8),El));
-w8(H+32,umin64(r8(H+32),Fl));
-rm=write_120(H,d,e);
-sm=r8(H+16)==0;
-if(rm.f0==0){
-if(!sm)port_rattle_dealloc(rp(H));
+bn=push_refused_bbc(1,Dm,Cm,Wm,Xm,H,H+24);
+Um=0;
+Vm=bn;
+goto L95;
+L94:goto L91;
+L95:cn=(Vm==0&&Um)?zm:1;
+dn=Vm;
+goto L93;}
+L89:qn=push_unnamed_383(Dm,Cm,H,H+24);
+cn=1;
+dn=qn;
+L93:if(dn==0){
+nn=r8(H+8);
+on=cn;
+goto L92;}
+L91:w8(H+8,umin64(r8(H+8),Em));
+w8(H+32,umin64(r8(H+32),Fm));
+rn=write_120(H,d,e);
+sn=r8(H+16)==0;
+if(rn.f0==0){
+if(!sn)port_rattle_dealloc(rp(H));
 if(r8(H+40)!=0)port_rattle_dealloc(rp(H+24));
-tm=rp(G+1544);
-um=rp(G+1584);
-vm=r8(G+1600);
-wm=rp(G+1608);
-xm=r8(G+1624);
-ym=rp(G+1632);
-zm=r8(G+1648);
-Am=r8(G+1560);
+tn=rp(G+1544);
+un=rp(G+1584);
+vn=r8(G+1600);
+wn=rp(G+1608);
+xn=r8(G+1624);
+yn=rp(G+1632);
+zn=r8(G+1648);
+An=r8(G+1560);
 memcpy(B,G,1544);
 drop_816(B);
-if(Am!=0)port_rattle_dealloc(tm);
-if(vm!=0)port_rattle_dealloc(um);
-if(xm!=0)port_rattle_dealloc(wm);
-if(zm!=0)port_rattle_dealloc(ym);
-Bm=2;
-Cm=1;
-goto L84;}
-Dm=rm.f1;
-if(!sm)port_rattle_dealloc(rp(H));
+if(An!=0)port_rattle_dealloc(tn);
+if(vn!=0)port_rattle_dealloc(un);
+if(xn!=0)port_rattle_dealloc(wn);
+if(zn!=0)port_rattle_dealloc(yn);
+Bn=2;
+Cn=1;
+goto L96;}
+Dn=rn.f1;
+if(!sn)port_rattle_dealloc(rp(H));
 if(r8(H+40)!=0)port_rattle_dealloc(rp(H+24));
-Em=rp(G+1544);
-Fm=rp(G+1584);
-Gm=r8(G+1600);
-Hm=rp(G+1608);
-Im=r8(G+1624);
-Jm=rp(G+1632);
-Km=r8(G+1648);
-Lm=r8(G+1560);
+En=rp(G+1544);
+Fn=rp(G+1584);
+Gn=r8(G+1600);
+Hn=rp(G+1608);
+In=r8(G+1624);
+Jn=rp(G+1632);
+Kn=r8(G+1648);
+Ln=r8(G+1560);
 memcpy(A,G,1544);
 drop_816(A);
-if(Lm!=0)port_rattle_dealloc(Em);
-if(Gm!=0)port_rattle_dealloc(Fm);
-if(Im!=0)port_rattle_dealloc(Hm);
-if(Km!=0)port_rattle_dealloc(Jm);
-Bm=Dm;
-Cm=1;
-goto L84;
-L80:if(!(nm<4096&&r8(H+32)<4096)){
-Mm=write_120(H,d,e);
-if(Mm.f0!=0){
-Nm=Mm.f1;
+if(Ln!=0)port_rattle_dealloc(En);
+if(Gn!=0)port_rattle_dealloc(Fn);
+if(In!=0)port_rattle_dealloc(Hn);
+if(Kn!=0)port_rattle_dealloc(Jn);
+Bn=Dn;
+Cn=1;
+goto L96;
+L92:if(!(nn<4096&&r8(H+32)<4096)){
+Mn=write_120(H,d,e);
+if(Mn.f0!=0){
+Nn=Mn.f1;
 if(r8(H+16)!=0)port_rattle_dealloc(rp(H));
 if(r8(H+40)!=0)port_rattle_dealloc(rp(H+24));
-Om=rp(G+1544);
-Pm=rp(G+1584);
-Qm=r8(G+1600);
-Rm=rp(G+1608);
-Sm=r8(G+1624);
-Tm=rp(G+1632);
-Um=r8(G+1648);
-Vm=r8(G+1560);
+On=rp(G+1544);
+Pn=rp(G+1584);
+Qn=r8(G+1600);
+Rn=rp(G+1608);
+Sn=r8(G+1624);
+Tn=rp(G+1632);
+Un=r8(G+1648);
+Vn=r8(G+1560);
 memcpy(z,G,1544);
 drop_816(z);
-if(Vm!=0)port_rattle_dealloc(Om);
-if(Qm!=0)port_rattle_dealloc(Pm);
-if(Sm!=0)port_rattle_dealloc(Rm);
-if(Um!=0)port_rattle_dealloc(Tm);
-Bm=Nm;
-Cm=1;
-goto L84;}}
-Wm=Al+1;
-if(Wm!=c){
-zl=om;
-Al=Wm;
-goto L76;}
-Xm=write_120(H,d,e);
-Ym=r8(H+16)==0;
-if(Xm.f0==0){
-if(!Ym)port_rattle_dealloc(rp(H));
+if(Vn!=0)port_rattle_dealloc(On);
+if(Qn!=0)port_rattle_dealloc(Pn);
+if(Sn!=0)port_rattle_dealloc(Rn);
+if(Un!=0)port_rattle_dealloc(Tn);
+Bn=Nn;
+Cn=1;
+goto L96;}}
+Wn=Am+1;
+if(Wn!=c){
+zm=on;
+Am=Wn;
+goto L88;}
+Xn=write_120(H,d,e);
+Yn=r8(H+16)==0;
+if(Xn.f0==0){
+if(!Yn)port_rattle_dealloc(rp(H));
 if(r8(H+40)!=0)port_rattle_dealloc(rp(H+24));
-Zm=rp(G+1544);
-an=rp(G+1584);
-bn=r8(G+1600);
-cn=rp(G+1608);
-dn=r8(G+1624);
-en=rp(G+1632);
-fn=r8(G+1648);
-gn=r8(G+1560);
+Zn=rp(G+1544);
+ao=rp(G+1584);
+bo=r8(G+1600);
+co=rp(G+1608);
+eo=r8(G+1624);
+fo=rp(G+1632);
+go=r8(G+1648);
+ho=r8(G+1560);
 memcpy(y,G,1544);
 drop_816(y);
-if(gn!=0)port_rattle_dealloc(Zm);
-if(bn!=0)port_rattle_dealloc(an);
-if(dn!=0)port_rattle_dealloc(cn);
-if(fn!=0)port_rattle_dealloc(en);
-Bm=om;
-Cm=0;}
+if(ho!=0)port_rattle_dealloc(Zn);
+if(bo!=0)port_rattle_dealloc(ao);
+if(eo!=0)port_rattle_dealloc(co);
+if(go!=0)port_rattle_dealloc(fo);
+Bn=on;
+Cn=0;}
 else{
-hn=Xm.f1;
-if(!Ym)port_rattle_dealloc(rp(H));
+io=Xn.f1;
+if(!Yn)port_rattle_dealloc(rp(H));
 if(r8(H+40)!=0)port_rattle_dealloc(rp(H+24));
-in=rp(G+1544);
-jn=rp(G+1584);
-kn=r8(G+1600);
-ln=rp(G+1608);
-mn=r8(G+1624);
-nn=rp(G+1632);
-on=r8(G+1648);
-pn=r8(G+1560);
+jo=rp(G+1544);
+ko=rp(G+1584);
+lo=r8(G+1600);
+mo=rp(G+1608);
+no=r8(G+1624);
+oo=rp(G+1632);
+po=r8(G+1648);
+qo=r8(G+1560);
 memcpy(x,G,1544);
 drop_816(x);
-if(pn!=0)port_rattle_dealloc(in);
-if(kn!=0)port_rattle_dealloc(jn);
-if(mn!=0)port_rattle_dealloc(ln);
-if(on!=0)port_rattle_dealloc(nn);
-Bm=hn;
-Cm=1;}
-L84:vl=Cm;
-wl=Bm;}
-ye=vl;
-ze=wl;}
+if(qo!=0)port_rattle_dealloc(jo);
+if(lo!=0)port_rattle_dealloc(ko);
+if(no!=0)port_rattle_dealloc(mo);
+if(po!=0)port_rattle_dealloc(oo);
+Bn=io;
+Cn=1;}
+L96:vm=Cn;
+wm=Bn;}
+Ye=vm;
+Ze=wm;}
 break;
 case 2:z32(q+1512);
 z48(r);
@@ -38956,7 +39113,7 @@ zero_all(t,1544);
 zero_all(u,1544);
 zero_all(v,1544);
 zero_all(w,1544);
-qn=(u64)(u8*)65536;
+ro=(u64)(u8*)65536;
 wp(q,(u8*)65536);
 z24(q+8);
 wp(q+32,(u8*)65536);
@@ -38991,9 +39148,9 @@ wp(q+536,(u8*)65536);
 z32(q+544);
 wp(q+576,(u8*)65536);
 z104(q+584);
-w8(q+688,qn);
+w8(q+688,ro);
 z40(q+696);
-w8(q+736,qn);
+w8(q+736,ro);
 z16(q+744);
 wp(q+760,(u8*)65536);
 z32(q+768);
@@ -39035,9 +39192,9 @@ wp(q+1352,(u8*)65536);
 z16(q+1360);
 wp(q+1376,(u8*)65536);
 z48(q+1384);
-w8(q+1432,qn);
+w8(q+1432,ro);
 z40(q+1440);
-w8(q+1480,qn);
+w8(q+1480,ro);
 z16(q+1488);
 wp(q+1504,(u8*)65536);
 z32(q+1512);
@@ -39045,185 +39202,185 @@ wp(r,(u8*)65536);
 z16(r+8);
 wp(r+24,(u8*)65536);
 z16(r+32);
-rn=lb&1;
-sn=0;
-tn=0;
-L85:un=b+(i64)(tn<<4);
-vn=r8(un+8);
-wn=rp(un);
-xn=r8(r+8);
-yn=r8(r+32);
-if(vn-65537>=0xffffffffffff0001u){
-zn=*wn==95;
-if(vn==2){
-if(!zn)goto L86;
-switch(wn[1]){
-case 90:An=0;
-goto L87;
+so=lb&1;
+to=0;
+uo=0;
+L97:vo=b+(i64)(uo<<4);
+wo=r8(vo+8);
+xo=rp(vo);
+yo=r8(r+8);
+zo=r8(r+32);
+if(wo-65537>=0xffffffffffff0001u){
+Ao=*xo==95;
+if(wo==2){
+if(!Ao)goto L98;
+switch(xo[1]){
+case 90:Bo=0;
+goto L99;
 case 82:break;
-default:goto L86;
+default:goto L98;
 }}
 else{
-if(!zn)goto L86;
-switch(wn[1]){
-case 90:An=0;
-goto L87;
+if(!Ao)goto L98;
+switch(xo[1]){
+case 90:Bo=0;
+goto L99;
 case 82:break;
-case 95:switch(wn[2]){
-case 90:An=0x100000000u;
-goto L87;
-case 82:An=0x100000001u;
-goto L87;
-default:goto L86;
+case 95:switch(xo[2]){
+case 90:Bo=0x100000000u;
+goto L99;
+case 82:Bo=0x100000001u;
+goto L99;
+default:goto L98;
 }
 break;
-default:goto L86;
+default:goto L98;
 }}
-An=1;
-L87:Bn=An;
-Cn=An>>32;
-Dn=Cn;
-if(!rn){
-demangle_45e(o,q,Bn,Dn,wn+(i64)Cn,vn-Cn,r);
+Bo=1;
+L99:Co=Bo;
+Do=Bo>>32;
+Eo=Do;
+if(!so){
+demangle_45e(o,q,Co,Eo,xo+(i64)Do,wo-Do,r);
 switch(*o){
-case 0:Pn=r8(r+8);
-if(r8(r+16)==Pn){
-Qn=grow_amortized_68b(r,1);
-if(!Qn)goto L88;
-Rn=r8(r+8);}
-else Rn=Pn;
-*(rp(r)+Rn)=10;
-Sn=Rn+1;
-w8(r+8,Sn);
-Tn=Sn;
-Un=sn;
-goto L89;
-case 1:Vn=3;
-Wn=0;
+case 0:Qo=r8(r+8);
+if(r8(r+16)==Qo){
+Ro=grow_amortized_68b(r,1);
+if(!Ro)goto L100;
+So=r8(r+8);}
+else So=Qo;
+*(rp(r)+So)=10;
+To=So+1;
+w8(r+8,To);
+Uo=To;
+Vo=to;
+goto L101;
+case 1:Wo=3;
+Xo=0;
 break;
-case 2:Vn=o[4];
-Wn=r4(o+8);
+case 2:Wo=o[4];
+Xo=r4(o+8);
 break;
 default:NEVER;
 }
-Xn=push_refused_bbc(2,wn,vn,Vn,Wn,r,r+24);
-Nn=1;
-On=Xn;
-goto L90;}
-demangle_45e(p,q,Bn,Dn,wn+(i64)Cn,vn-Cn,r);
+Yo=push_refused_bbc(2,xo,wo,Wo,Xo,r,r+24);
+Oo=1;
+Po=Yo;
+goto L102;}
+demangle_45e(p,q,Co,Eo,xo+(i64)Do,wo-Do,r);
 switch(*p){
-case 0:En=r8(r+8);
-if(r8(r+16)==En){
-Fn=grow_amortized_68b(r,1);
-if(!Fn)break;
-Gn=r8(r+8);}
-else Gn=En;
-*(rp(r)+Gn)=10;
-w8(r+8,Gn+1);
-Hn=push_counts_ddb(p+4,r);
-In=!(Hn&1);
-Jn=Hn;
-goto L91;
-case 1:Kn=push_refused_bbc(2,wn,vn,3,0,r,r+24);
-if(!(Kn&1)){
-Ln=push_counts_ddb(p+4,r);
-In=0;
-Jn=Ln;
-goto L91;}
+case 0:Fo=r8(r+8);
+if(r8(r+16)==Fo){
+Go=grow_amortized_68b(r,1);
+if(!Go)break;
+Ho=r8(r+8);}
+else Ho=Fo;
+*(rp(r)+Ho)=10;
+w8(r+8,Ho+1);
+Io=push_counts_ddb(p+4,r);
+Jo=!(Io&1);
+Ko=Io;
+goto L103;
+case 1:Lo=push_refused_bbc(2,xo,wo,3,0,r,r+24);
+if(!(Lo&1)){
+Mo=push_counts_ddb(p+4,r);
+Jo=0;
+Ko=Mo;
+goto L103;}
 break;
-case 2:Mn=push_refused_bbc(2,wn,vn,p[4],r4(p+8),r,r+24);
-In=0;
-Jn=Mn;
-goto L91;
+case 2:No=push_refused_bbc(2,xo,wo,p[4],r4(p+8),r,r+24);
+Jo=0;
+Ko=No;
+goto L103;
 default:NEVER;
 }
-goto L88;
-L91:Nn=(Jn==0&&In)?sn:1;
-On=Jn;
-goto L90;}
-L86:Yn=push_unnamed_383(wn,vn,r,r+24);
-Nn=1;
-On=Yn;
-L90:if(On==0){
-Tn=r8(r+8);
-Un=Nn;
-goto L89;}
-L88:w8(r+8,umin64(r8(r+8),xn));
-w8(r+32,umin64(r8(r+32),yn));
-Zn=write_120(r,d,e);
-ao=r8(r+16)==0;
-if(Zn.f0==0){
-if(!ao)port_rattle_dealloc(rp(r));
+goto L100;
+L103:Oo=(Ko==0&&Jo)?to:1;
+Po=Ko;
+goto L102;}
+L98:Zo=push_unnamed_383(xo,wo,r,r+24);
+Oo=1;
+Po=Zo;
+L102:if(Po==0){
+Uo=r8(r+8);
+Vo=Oo;
+goto L101;}
+L100:w8(r+8,umin64(r8(r+8),yo));
+w8(r+32,umin64(r8(r+32),zo));
+ap=write_120(r,d,e);
+bp=r8(r+16)==0;
+if(ap.f0==0){
+if(!bp)port_rattle_dealloc(rp(r));
 if(r8(r+40)==0){
-bo=t;
-co=2;
-eo=1;
-goto L92;}
-fo=t;
-go=2;
-ho=1;
-goto L93;}
-io=Zn.f1;
-if(!ao)port_rattle_dealloc(rp(r));
+cp=t;
+dp=2;
+ep=1;
+goto L104;}
+fp=t;
+gp=2;
+hp=1;
+goto L105;}
+ip=ap.f1;
+if(!bp)port_rattle_dealloc(rp(r));
 if(r8(r+40)==0){
-bo=s;
-co=io;
-eo=1;
-goto L92;}
-fo=s;
-go=io;
-ho=1;
-goto L93;
-L89:if(!(Tn<4096&&r8(r+32)<4096)){
-jo=write_120(r,d,e);
-if(jo.f0!=0){
-ko=jo.f1;
+cp=s;
+dp=ip;
+ep=1;
+goto L104;}
+fp=s;
+gp=ip;
+hp=1;
+goto L105;
+L101:if(!(Uo<4096&&r8(r+32)<4096)){
+jp=write_120(r,d,e);
+if(jp.f0!=0){
+kp=jp.f1;
 if(r8(r+16)!=0)port_rattle_dealloc(rp(r));
 if(r8(r+40)==0){
-bo=u;
-co=ko;
-eo=1;
-goto L92;}
-fo=u;
-go=ko;
-ho=1;
-goto L93;}}
-lo=tn+1;
-if(lo!=c){
-sn=Un;
-tn=lo;
-goto L85;}
-mo=write_120(r,d,e);
-no=r8(r+16)==0;
-if(mo.f0==0){
-if(!no)port_rattle_dealloc(rp(r));
+cp=u;
+dp=kp;
+ep=1;
+goto L104;}
+fp=u;
+gp=kp;
+hp=1;
+goto L105;}}
+lp=uo+1;
+if(lp!=c){
+to=Vo;
+uo=lp;
+goto L97;}
+np=write_120(r,d,e);
+op=r8(r+16)==0;
+if(np.f0==0){
+if(!op)port_rattle_dealloc(rp(r));
 if(r8(r+40)==0){
-bo=w;
-co=Un;
-eo=0;
-goto L92;}
-fo=w;
-go=Un;
-ho=0;}
+cp=w;
+dp=Vo;
+ep=0;
+goto L104;}
+fp=w;
+gp=Vo;
+hp=0;}
 else{
-oo=mo.f1;
-if(!no)port_rattle_dealloc(rp(r));
+pp=np.f1;
+if(!op)port_rattle_dealloc(rp(r));
 if(r8(r+40)==0){
-bo=v;
-co=oo;
-eo=1;
-goto L92;}
-fo=v;
-go=oo;
-ho=1;}
-L93:port_rattle_dealloc(rp(r+24));
-bo=fo;
-co=go;
-eo=ho;
-L92:memcpy(bo,q,1544);
-drop_816(bo);
-ye=eo;
-ze=co;
+cp=v;
+dp=pp;
+ep=1;
+goto L104;}
+fp=v;
+gp=pp;
+hp=1;}
+L105:port_rattle_dealloc(rp(r+24));
+cp=fp;
+dp=gp;
+ep=hp;
+L104:memcpy(cp,q,1544);
+drop_816(cp);
+Ye=ep;
+Ze=dp;
 break;
 case 3:z32(h+1512);
 z48(i);
@@ -39232,7 +39389,7 @@ zero_all(k,1544);
 zero_all(l,1544);
 zero_all(m,1544);
 zero_all(n,1544);
-po=(u64)(u8*)65536;
+sp=(u64)(u8*)65536;
 wp(h,(u8*)65536);
 z24(h+8);
 wp(h+32,(u8*)65536);
@@ -39267,9 +39424,9 @@ wp(h+536,(u8*)65536);
 z32(h+544);
 wp(h+576,(u8*)65536);
 z104(h+584);
-w8(h+688,po);
+w8(h+688,sp);
 z40(h+696);
-w8(h+736,po);
+w8(h+736,sp);
 z16(h+744);
 wp(h+760,(u8*)65536);
 z32(h+768);
@@ -39311,9 +39468,9 @@ wp(h+1352,(u8*)65536);
 z16(h+1360);
 wp(h+1376,(u8*)65536);
 z48(h+1384);
-w8(h+1432,po);
+w8(h+1432,sp);
 z40(h+1440);
-w8(h+1480,po);
+w8(h+1480,sp);
 z16(h+1488);
 wp(h+1504,(u8*)65536);
 z32(h+1512);
@@ -39321,192 +39478,192 @@ wp(i,(u8*)65536);
 z16(i+8);
 wp(i+24,(u8*)65536);
 z16(i+32);
-qo=lb&1;
-ro=0;
-so=0;
-L94:to=b+(i64)(so<<4);
-uo=r8(to+8);
-vo=rp(to);
-wo=r8(i+8);
-xo=r8(i+32);
-if(uo-65537>=0xffffffffffff0001u){
-yo=*vo==95;
-if(uo==2){
-if(!yo)goto L95;
-switch(vo[1]){
-case 90:zo=0;
-goto L96;
+tp=lb&1;
+up=0;
+vp=0;
+L106:yp=b+(i64)(vp<<4);
+zp=r8(yp+8);
+Ap=rp(yp);
+Bp=r8(i+8);
+Cp=r8(i+32);
+if(zp-65537>=0xffffffffffff0001u){
+Dp=*Ap==95;
+if(zp==2){
+if(!Dp)goto L107;
+switch(Ap[1]){
+case 90:Ep=0;
+goto L108;
 case 82:break;
-default:goto L95;
+default:goto L107;
 }}
 else{
-if(!yo)goto L95;
-switch(vo[1]){
-case 90:zo=0;
-goto L96;
+if(!Dp)goto L107;
+switch(Ap[1]){
+case 90:Ep=0;
+goto L108;
 case 82:break;
-case 95:switch(vo[2]){
-case 90:zo=0x100000000u;
-goto L96;
-case 82:zo=0x100000001u;
-goto L96;
-default:goto L95;
+case 95:switch(Ap[2]){
+case 90:Ep=0x100000000u;
+goto L108;
+case 82:Ep=0x100000001u;
+goto L108;
+default:goto L107;
 }
 break;
-default:goto L95;
+default:goto L107;
 }}
-zo=1;
-L96:Ao=zo;
-Bo=zo>>32;
-Co=Bo;
-if(!qo){
-demangle_363(f,h,Ao,Co,vo+(i64)Bo,uo-Bo,i);
+Ep=1;
+L108:Fp=Ep;
+Gp=Ep>>32;
+Hp=Gp;
+if(!tp){
+demangle_363(f,h,Fp,Hp,Ap+(i64)Gp,zp-Gp,i);
 switch(*f){
-case 0:Oo=r8(i+8);
-if(r8(i+16)==Oo){
-Po=grow_amortized_68b(i,1);
-if(!Po)goto L97;
-Qo=r8(i+8);}
-else Qo=Oo;
-*(rp(i)+Qo)=10;
-Ro=Qo+1;
-w8(i+8,Ro);
-So=Ro;
-To=ro;
-goto L98;
-case 1:Uo=3;
-Vo=0;
+case 0:Tp=r8(i+8);
+if(r8(i+16)==Tp){
+Up=grow_amortized_68b(i,1);
+if(!Up)goto L109;
+Vp=r8(i+8);}
+else Vp=Tp;
+*(rp(i)+Vp)=10;
+Wp=Vp+1;
+w8(i+8,Wp);
+Xp=Wp;
+Yp=up;
+goto L110;
+case 1:Zp=3;
+aq=0;
 break;
-case 2:Uo=f[4];
-Vo=r4(f+8);
+case 2:Zp=f[4];
+aq=r4(f+8);
 break;
 default:NEVER;
 }
-Wo=push_refused_bbc(3,vo,uo,Uo,Vo,i,i+24);
-Mo=1;
-No=Wo;
-goto L99;}
-demangle_363(g,h,Ao,Co,vo+(i64)Bo,uo-Bo,i);
+bq=push_refused_bbc(3,Ap,zp,Zp,aq,i,i+24);
+Rp=1;
+Sp=bq;
+goto L111;}
+demangle_363(g,h,Fp,Hp,Ap+(i64)Gp,zp-Gp,i);
 switch(*g){
-case 0:Do=r8(i+8);
-if(r8(i+16)==Do){
-Eo=grow_amortized_68b(i,1);
-if(!Eo)break;
-Fo=r8(i+8);}
-else Fo=Do;
-*(rp(i)+Fo)=10;
-w8(i+8,Fo+1);
-Go=push_counts_ddb(g+4,i);
-Ho=!(Go&1);
-Io=Go;
-goto L100;
-case 1:Jo=push_refused_bbc(3,vo,uo,3,0,i,i+24);
-if(!(Jo&1)){
-Ko=push_counts_ddb(g+4,i);
-Ho=0;
-Io=Ko;
-goto L100;}
+case 0:Ip=r8(i+8);
+if(r8(i+16)==Ip){
+Jp=grow_amortized_68b(i,1);
+if(!Jp)break;
+Kp=r8(i+8);}
+else Kp=Ip;
+*(rp(i)+Kp)=10;
+w8(i+8,Kp+1);
+Lp=push_counts_ddb(g+4,i);
+Mp=!(Lp&1);
+Np=Lp;
+goto L112;
+case 1:Op=push_refused_bbc(3,Ap,zp,3,0,i,i+24);
+if(!(Op&1)){
+Pp=push_counts_ddb(g+4,i);
+Mp=0;
+Np=Pp;
+goto L112;}
 break;
-case 2:Lo=push_refused_bbc(3,vo,uo,g[4],r4(g+8),i,i+24);
-Ho=0;
-Io=Lo;
-goto L100;
+case 2:Qp=push_refused_bbc(3,Ap,zp,g[4],r4(g+8),i,i+24);
+Mp=0;
+Np=Qp;
+goto L112;
 default:NEVER;
 }
-goto L97;
-L100:Mo=(Io==0&&Ho)?ro:1;
-No=Io;
-goto L99;}
-L95:Xo=push_unnamed_383(vo,uo,i,i+24);
-Mo=1;
-No=Xo;
-L99:if(No==0){
-So=r8(i+8);
-To=Mo;
-goto L98;}
-L97:w8(i+8,umin64(r8(i+8),wo));
-w8(i+32,umin64(r8(i+32),xo));
-Yo=write_120(i,d,e);
-Zo=r8(i+16)==0;
-if(Yo.f0==0){
-if(!Zo)port_rattle_dealloc(rp(i));
+goto L109;
+L112:Rp=(Np==0&&Mp)?up:1;
+Sp=Np;
+goto L111;}
+L107:cq=push_unnamed_383(Ap,zp,i,i+24);
+Rp=1;
+Sp=cq;
+L111:if(Sp==0){
+Xp=r8(i+8);
+Yp=Rp;
+goto L110;}
+L109:w8(i+8,umin64(r8(i+8),Bp));
+w8(i+32,umin64(r8(i+32),Cp));
+dq=write_120(i,d,e);
+eq=r8(i+16)==0;
+if(dq.f0==0){
+if(!eq)port_rattle_dealloc(rp(i));
 if(r8(i+40)==0){
-ap=k;
-bp=2;
-cp=1;
-goto L101;}
-dp=k;
-ep=2;
-fp=1;
-goto L102;}
-gp=Yo.f1;
-if(!Zo)port_rattle_dealloc(rp(i));
+fq=k;
+gq=2;
+hq=1;
+goto L113;}
+iq=k;
+jq=2;
+kq=1;
+goto L114;}
+lq=dq.f1;
+if(!eq)port_rattle_dealloc(rp(i));
 if(r8(i+40)==0){
-ap=j;
-bp=gp;
-cp=1;
-goto L101;}
-dp=j;
-ep=gp;
-fp=1;
-goto L102;
-L98:if(!(So<4096&&r8(i+32)<4096)){
-hp=write_120(i,d,e);
-ip=hp.f0;
-if(ip!=0){
-jp=(ip&1)?hp.f1:0;
+fq=j;
+gq=lq;
+hq=1;
+goto L113;}
+iq=j;
+jq=lq;
+kq=1;
+goto L114;
+L110:if(!(Xp<4096&&r8(i+32)<4096)){
+mq=write_120(i,d,e);
+nq=mq.f0;
+if(nq!=0){
+oq=(nq&1)?mq.f1:0;
 if(r8(i+16)!=0)port_rattle_dealloc(rp(i));
 if(r8(i+40)==0){
-ap=l;
-bp=jp;
-cp=1;
-goto L101;}
-dp=l;
-ep=jp;
-fp=1;
-goto L102;}}
-kp=so+1;
-if(kp!=c){
-ro=To;
-so=kp;
-goto L94;}
-lp=write_120(i,d,e);
-np=r8(i+16)==0;
-if(lp.f0==0){
-if(!np)port_rattle_dealloc(rp(i));
+fq=l;
+gq=oq;
+hq=1;
+goto L113;}
+iq=l;
+jq=oq;
+kq=1;
+goto L114;}}
+pq=vp+1;
+if(pq!=c){
+up=Yp;
+vp=pq;
+goto L106;}
+qq=write_120(i,d,e);
+rq=r8(i+16)==0;
+if(qq.f0==0){
+if(!rq)port_rattle_dealloc(rp(i));
 if(r8(i+40)==0){
-ap=n;
-bp=To;
-cp=0;
-goto L101;}
-dp=n;
-ep=To;
-fp=0;}
+fq=n;
+gq=Yp;
+hq=0;
+goto L113;}
+iq=n;
+jq=Yp;
+kq=0;}
 else{
-op=lp.f1;
-if(!np)port_rattle_dealloc(rp(i));
+sq=qq.f1;
+if(!rq)port_rattle_dealloc(rp(i));
 if(r8(i+40)==0){
-ap=m;
-bp=op;
-cp=1;
-goto L101;}
-dp=m;
-ep=op;
-fp=1;}
-L102:port_rattle_dealloc(rp(i+24));
-ap=dp;
-bp=ep;
-cp=fp;
-L101:memcpy(ap,h,1544);
-drop_816(ap);
-ye=cp;
-ze=bp;
+fq=m;
+gq=sq;
+hq=1;
+goto L113;}
+iq=m;
+jq=sq;
+kq=1;}
+L114:port_rattle_dealloc(rp(i+24));
+fq=iq;
+gq=jq;
+hq=kq;
+L113:memcpy(fq,h,1544);
+drop_816(fq);
+Ye=hq;
+Ze=gq;
 break;
 default:NEVER;
 }
-pp=(s_8_8){0};pp.f0=ye;
-sp=pp;sp.f1=ze;
-return sp;
+tq=(s_8_8){0};tq.f0=Ye;
+uq=tq;uq.f1=Ze;
+return uq;
 }
 
 /* sym_command::lines::push_unnamed */
@@ -57387,11 +57544,11 @@ static void print_entries_4a3(u8* a,u8* b,u8* c,u8* d,u8* e,u8* f,u8 g)
 {
 u8 h[3],k[3],r[3],s[3],t[3],u[3],v[3],w[3];
 A16 u8 i[12],j[12],l[16],m[16],n[24],o[20],p[12],q[32];
-u64 x,C,E,F,H,J,U,V,W,X,Y,Z,ca,fa,ga,ha,ia,ka,la,ma,na,pa,sa,ta,xa,za,Da,Fa,Ha,Ja,Ma,Oa,Pa,Ra,Sa,Ta,Va,Xa,bb,hb,kb,nb,pb,rb,sb,ub,wb,zb,Ab,Bb,Cb,Hb,Ib,Jb,Kb,ac,jc,Cc,Fc,Ic,Nc,bd,fd,kd,td,vd,yd,Ad,Bd,Cd,Dd,Ed,Gd,Hd,Id,Kd,Ld,Md,Qd,Rd,Sd,Vd,Wd,Yd,Zd,be,ce,de,ee,ge;
-u8 y,O,R,aa,wa,ya,Ea,Ia,Qa,cb,db,ib,jb,qb,tb,yb,Ob,Qb,Rb,Vb,Wb,bc,cc,dc,gc,sc,vc,zc,Tc,id,ud,zd,Fd,Jd;
-u32 z,A,L,M,N,P,Q,S,T,da,ja,oa,qa,ra,va,Ba,Ca,La,Ya,Za,ab,eb,xb,Gb,Lb,Pb,Sb,Xb,Yb,Zb,ec,nc,Sc,Uc,Vc,Yc,Zc,ad,hd,jd,sd,xd;
-u8 *B,*D,*G,*I,*K,*ba,*ea,*ua,*Aa,*Ga,*Ka,*Na,*Ua,*Wa,*fb,*gb,*lb,*mb,*ob,*vb,*Mb,*Nb,*Tb,*Ub,*fc,*hc,*ic,*kc,*lc,*mc,*oc,*qc,*tc,*wc,*yc,*Ac,*Bc,*Dc,*Ec,*Gc,*Hc,*Jc,*Kc,*Lc,*Mc,*Oc,*Pc,*Qc,*Rc,*Wc,*Xc,*cd,*dd,*ed,*gd,*ld,*nd,*Nd,*Od,*Pd,*Td,*Ud,*Xd,*ae,*fe;
-s_64_64 Db,Eb,Fb;
+u64 x,C,E,F,H,J,U,V,W,X,Y,Z,ca,fa,ga,ha,ia,ka,la,ma,na,pa,sa,ta,xa,za,Da,Fa,Ha,Ja,Ma,Oa,Pa,Ra,Sa,Ta,Va,Xa,ib,lb,ob,qb,sb,tb,vb,xb,Ab,Bb,Cb,Db,Ib,Jb,Kb,Lb,ac,jc,Cc,Fc,Ic,Nc,bd,fd,kd,td,vd,yd,Ad,Bd,Cd,Dd,Ed,Gd,Hd,Id,Kd,Ld,Md,Qd,Rd,Sd,Vd,Wd,Yd,Zd,be,ce,de,ee,ge;
+u8 y,O,R,aa,wa,ya,Ea,Ia,Qa,bb,db,eb,jb,kb,rb,ub,zb,Ob,Qb,Rb,Vb,Wb,bc,cc,dc,gc,sc,vc,zc,Tc,id,ud,zd,Fd,Jd;
+u32 z,A,L,M,N,P,Q,S,T,da,ja,oa,qa,ra,va,Ba,Ca,La,Ya,Za,ab,cb,fb,yb,Hb,Pb,Sb,Xb,Yb,Zb,ec,nc,Sc,Uc,Vc,Yc,Zc,ad,hd,jd,sd,xd;
+u8 *B,*D,*G,*I,*K,*ba,*ea,*ua,*Aa,*Ga,*Ka,*Na,*Ua,*Wa,*gb,*hb,*mb,*nb,*pb,*wb,*Mb,*Nb,*Tb,*Ub,*fc,*hc,*ic,*kc,*lc,*mc,*oc,*qc,*tc,*wc,*yc,*Ac,*Bc,*Dc,*Ec,*Gc,*Hc,*Jc,*Kc,*Lc,*Mc,*Oc,*Pc,*Qc,*Rc,*Wc,*Xc,*cd,*dd,*ed,*gd,*ld,*nd,*Nd,*Od,*Pd,*Td,*Ud,*Xd,*ae,*fe;
+s_64_64 Eb,Fb,Gb;
 u16 pc,rc,uc,xc,md,od,pd,qd;
 if(r8(e+8)!=0)w8(e+8,0);
 if(r8(e+32)!=0)w8(e+32,0);
@@ -57624,111 +57781,106 @@ switch(D[-36]){
 case 0:Ya=q4(D-32);
 Za=q4(D-28);
 ab=q4(D-24);
-bb=q8(D-20);
-cb=D[-12];
-db=D[-8];
-eb=q4(D-4);
+bb=D[-20];
+cb=q4(D-16);
+db=D[-12];
+eb=D[-8];
+fb=q4(D-4);
 z12(p);
 z32(q);
 if(g){
 if(r8(e+80)<=Ya)goto L10;
-fb=rp(e+72)+(i64)((u64)Ya*12);
-if(fb[8]&1&&ab==0)goto L10;
-if((r4(fb+4)&((u32)1<<(Za&31)))==0)goto L10;}
+gb=rp(e+72)+(i64)((u64)Ya*12);
+if(gb[8]&1&&ab==0)goto L10;
+if((r4(gb+4)&((u32)1<<(Za&31)))==0)goto L10;}
 else{
 if(Za==0){
-gb=rp(b+24);
-hb=(u64)Ya*48;
-ib=*(gb+(i64)hb);
-if(ib!=12){
-jb=ib;
-kb=hb;
-lb=gb;
-goto L11;}
-switch(cb){
-case 0:case 2:goto L10;
-case 1:case 3:goto L12;
-default:NEVER;
-}}}
+hb=rp(b+24);
+ib=(u64)Ya*48;
+jb=*(hb+(i64)ib);
+if((u8)(jb-14)>=253)goto L10;
+kb=jb;
+lb=ib;
+mb=hb;
+goto L11;}}
 if(Za>1)goto L12;
-mb=rp(b+24);
-nb=(u64)Ya*48;
-jb=*(mb+(i64)nb);
-kb=nb;
-lb=mb;
-L11:if(jb==25){
-ob=lb+(i64)((u64)q4(lb+(i64)kb+4)*48);
-if(*ob==25){
-pb=(u64)q4(ob+4)*48;
-if(*(lb+(i64)pb)!=25)goto L12;
-qb=0;
-rb=pb;
-L13:sb=(u64)q4(lb+(i64)rb+4)*48;
-if(*(lb+(i64)sb)!=25)goto L12;
-if(qb)goto L10;
-qb=1;
-rb=sb;
+nb=rp(b+24);
+ob=(u64)Ya*48;
+kb=*(nb+(i64)ob);
+lb=ob;
+mb=nb;
+L11:if(kb==25){
+pb=mb+(i64)((u64)q4(mb+(i64)lb+4)*48);
+if(*pb==25){
+qb=(u64)q4(pb+4)*48;
+if(*(mb+(i64)qb)!=25)goto L12;
+rb=0;
+sb=qb;
+L13:tb=(u64)q4(mb+(i64)sb+4)*48;
+if(*(mb+(i64)tb)!=25)goto L12;
+if(rb)goto L10;
+rb=1;
+sb=tb;
 goto L13;}
-tb=0;
-ub=kb;
-L14:vb=lb+(i64)((u64)q4(lb+(i64)ub+4)*48);
-if(*vb==32){
-if(!(vb[1]&1||vb[2]&1)&&vb[3]&1){
-wb=(u64)q4(vb+4)*48;
-if(*(lb+(i64)wb)==25){
-if(tb)goto L10;
-tb=1;
-ub=wb;
+ub=0;
+vb=lb;
+L14:wb=mb+(i64)((u64)q4(mb+(i64)vb+4)*48);
+if(*wb==32){
+if(!(wb[1]&1||wb[2]&1)&&wb[3]&1){
+xb=(u64)q4(wb+4)*48;
+if(*(mb+(i64)xb)==25){
+if(ub)goto L10;
+ub=1;
+vb=xb;
 goto L14;}}}}
-L12:xb=r4(f);
-if(r4(f+4)!=xb){
-zb=r8(c+16);
-if(zb-F<8){
-Ab=umax64(F,8);
-if(Ab>(F^18446744073709551615u)){
-yb=4;
+L12:yb=r4(f);
+if(r4(f+4)!=yb){
+Ab=r8(c+16);
+if(Ab-F<8){
+Bb=umax64(F,8);
+if(Bb>(F^18446744073709551615u)){
+zb=4;
 goto L15;}
-Bb=Ab+F;
-if(Bb>=0x38e38e38e38e38fu){
-yb=4;
+Cb=Bb+F;
+if(Cb>=0x38e38e38e38e38fu){
+zb=4;
 goto L15;}
-Cb=Bb*36;
-if(zb==0){
-Db=port_rattle_alloc(Cb,4);
-if(!(u8)(Db.f0&1)){
-yb=4;
+Db=Cb*36;
+if(Ab==0){
+Eb=port_rattle_alloc(Db,4);
+if(!(u8)(Eb.f0&1)){
+zb=4;
 goto L15;}
-Eb=Db;}
+Fb=Eb;}
 else{
-Fb=port_rattle_realloc(G,E,Cb,4);
-if(!(u8)(Fb.f0&1)){
-yb=4;
+Gb=port_rattle_realloc(G,E,Db,4);
+if(!(u8)(Gb.f0&1)){
+zb=4;
 goto L15;}
-Eb=Fb;}
-wp(c,(u8*)Eb.f1);
-w8(c+16,Bb);
-Gb=r4(f);}
-else Gb=xb;
-Hb=r8(f+8)+1;
-w4(f,Gb+1);
-w8(f+8,Hb);
-Ib=r8(c+8);
-if(Ib==0)Jb=0;
+Fb=Gb;}
+wp(c,(u8*)Fb.f1);
+w8(c+16,Cb);
+Hb=r4(f);}
+else Hb=yb;
+Ib=r8(f+8)+1;
+w4(f,Hb+1);
+w8(f+8,Ib);
+Jb=r8(c+8);
+if(Jb==0)Kb=0;
 else{
-Kb=Ib-1;
-w8(c+8,Kb);
-Jb=Kb;}
-Lb=bb>>32;
+Lb=Jb-1;
+w8(c+8,Lb);
+Kb=Lb;}
 Mb=rp(b+24);
 Nb=Mb+(i64)((u64)Ya*48);
 Ob=*Nb==47;
 Pb=Ob?q4(Nb+4):Ya;
-Qb=db!=0;
+Qb=eb!=0;
 Rb=Qb||Ob;
-Sb=Qb?eb:(Ob?q4(Nb+8):0);
-w4(o,(u32)bb&255);
-w4(o+4,Lb);
-o[8]=cb;
+Sb=Qb?fb:(Ob?q4(Nb+8):0);
+w4(o,bb);
+w4(o+4,cb);
+o[8]=db;
 z3(o+9);
 w4(o+12,Rb);
 w4(o+16,Sb);
@@ -57760,24 +57912,24 @@ fc=Tb+(i64)Zb;
 if(!((ac&4294967295u)-Zb<10||*fc!=95)){
 gc=parts_equal_58b((u8*)t_35ad,10,fc,10);
 if(gc){
-hc=rp(c)+Jb*36;
+hc=rp(c)+Kb*36;
 *hc=3;
 hc[1]=0;
 x2(hc+2,35);
 z32(hc+4);
-w8(c+8,Jb+1);
+w8(c+8,Kb+1);
 goto L16;}}}
 if(Zb<ec){
-ic=rp(c)+Jb*36;
+ic=rp(c)+Kb*36;
 *ic=1;
 z3(ic+1);
 x4(ic+4,Zb);
 x4(ic+8,ec);
 z24(ic+12);
-w8(c+8,Jb+1);}}
+w8(c+8,Kb+1);}}
 else fill_rare_piece_017(b,c,l,o);
 L16:break;
-case 10:jc=Jb*36;
+case 10:jc=Kb*36;
 kc=rp(c)+jc;
 x4(kc,0);
 x4(kc+4,Pb);
@@ -57789,7 +57941,7 @@ lc[36]=3;
 lc[37]=0;
 x2(lc+38,7);
 z32(lc+40);
-w8(c+8,Jb+2);
+w8(c+8,Kb+2);
 break;
 case 11:*m=bc;
 m[1]=cc;
@@ -57801,33 +57953,33 @@ break;
 case 12:fill_instance_1f0(b,c,Xb,Yb,o);
 break;
 case 13:own_entity_238(n,b,Yb,o);
-mc=rp(c)+Jb*36;
+mc=rp(c)+Kb*36;
 nc=r4(n);
 x4(mc,0);
 x4(mc+4,nc);
 x4(mc+8,0);
 x4(mc+12,0);
 memcpy(mc+16,n+4,20);
-w8(c+8,Jb+1);
+w8(c+8,Kb+1);
 break;
-case 14:oc=rp(c)+Jb*36;
+case 14:oc=rp(c)+Kb*36;
 x4(oc,0);
 x4(oc+4,Xb);
 x4(oc+8,0);
 x4(oc+12,0);
 memcpy(oc+16,o,20);
-w8(c+8,Jb+1);
+w8(c+8,Kb+1);
 break;
 case 15:fill_tagged_146(c,Xb,Yb,Zb,o);
 break;
 case 17:pc=abbreviation_6bb(Wb);
 if(pc!=60){
-qc=rp(c)+Jb*36;
+qc=rp(c)+Kb*36;
 *qc=3;
 qc[1]=0;
 x2(qc+2,pc);
 z32(qc+4);
-w8(c+8,Jb+1);}
+w8(c+8,Kb+1);}
 break;
 case 18:fill_parameter_f0e(b,c,Xb,Yb,0,o);
 break;
@@ -57836,45 +57988,45 @@ switch(Vb){
 case 20:sc=Wb-97;
 if(sc<26){
 if((((u64)1<<sc)&1278976)==0){
-tc=rp(c)+Jb*36;
+tc=rp(c)+Kb*36;
 uc=r2((u8*)t_91f6+(u64)sc*2);
 *tc=3;
 tc[1]=0;
 x2(tc+2,uc);
 z32(tc+4);
-w8(c+8,Jb+1);}}
+w8(c+8,Kb+1);}}
 break;
 case 21:vc=Wb-97;
 if(vc<21){
 if((((u64)1<<vc)&777794)==0){
-wc=rp(c)+Jb*36;
+wc=rp(c)+Kb*36;
 xc=r2((u8*)t_1a3f+(u64)vc*2);
 *wc=3;
 wc[1]=0;
 x2(wc+2,xc);
 z32(wc+4);
-w8(c+8,Jb+1);}}
+w8(c+8,Kb+1);}}
 break;
 case 24:if(Yb!=Xb){
 yc=Tb+(i64)Xb;
 if(!((u64)Yb-Xb<10||*yc!=95)){
 zc=parts_equal_58b((u8*)t_35ad,10,yc,10);
 if(zc){
-Ac=rp(c)+Jb*36;
+Ac=rp(c)+Kb*36;
 *Ac=3;
 Ac[1]=0;
 x2(Ac+2,35);
 z32(Ac+4);
-w8(c+8,Jb+1);
+w8(c+8,Kb+1);
 break;}}}
 if(Xb<Yb){
-Bc=rp(c)+Jb*36;
+Bc=rp(c)+Kb*36;
 *Bc=1;
 z3(Bc+1);
 x4(Bc+4,Xb);
 x4(Bc+8,Yb);
 z24(Bc+12);
-w8(c+8,Jb+1);}
+w8(c+8,Kb+1);}
 break;
 case 25:fill_marked_395(b,c,Xb,o);
 break;
@@ -57886,7 +58038,7 @@ case 28:fill_array_c4d(b,c,Zb,o);
 break;
 case 29:fill_array_c4d(b,c,Yb,o);
 break;
-case 31:Cc=Jb*36;
+case 31:Cc=Kb*36;
 Dc=rp(c)+Cc;
 *Dc=3;
 Dc[1]=0;
@@ -57898,7 +58050,7 @@ x4(Ec+40,Xb);
 x4(Ec+44,0);
 x4(Ec+48,0);
 memcpy(Ec+52,o,20);
-w8(c+8,Jb+2);
+w8(c+8,Kb+2);
 break;
 case 30:fill_member_2fa(b,c,Xb,Yb,o);
 break;
@@ -57908,7 +58060,7 @@ fill_qualified_left_bf3(b,c,k,Xb,o);
 break;
 case 33:fill_vector_eb1(c,Xb,Yb,Zb,o);
 break;
-case 34:Fc=Jb*36;
+case 34:Fc=Kb*36;
 Gc=rp(c)+Fc;
 *Gc=3;
 Gc[1]=0;
@@ -57920,11 +58072,11 @@ x4(Hc+40,Xb);
 x4(Hc+44,0);
 x4(Hc+48,0);
 memcpy(Hc+52,o,20);
-w8(c+8,Jb+2);
+w8(c+8,Kb+2);
 break;
 case 22:fill_float_1e8(c,Xb,Yb,Zb);
 break;
-case 23:Ic=Jb*36;
+case 23:Ic=Kb*36;
 Jc=rp(c)+Ic;
 *Jc=3;
 Jc[1]=0;
@@ -57936,7 +58088,7 @@ x4(Kc+40,Xb);
 x4(Kc+44,0);
 x4(Kc+48,0);
 memcpy(Kc+52,o,20);
-w8(c+8,Jb+2);
+w8(c+8,Kb+2);
 break;
 case 0:case 1:case 2:case 3:case 4:case 5:case 6:case 7:case 8:case 9:case 10:case 11:case 12:case 13:case 14:case 15:case 16:case 17:case 18:case 19:case 35:case 36:case 37:case 38:case 39:case 40:case 41:case 42:case 43:case 44:case 45:case 46:case 47:w4(i,Zb);
 x8(i+4,ac);
@@ -57945,27 +58097,27 @@ case 36:fill_expansion_7b7(b,c,Xb,o);
 break;
 case 44:Lc=Mb+(i64)((u64)Xb*48);
 if(*(Mb+(i64)((u64)(*Lc==47?q4(Lc+4):Xb)*48))!=1){
-Mc=rp(c)+Jb*36;
+Mc=rp(c)+Kb*36;
 x4(Mc,0);
 x4(Mc+4,Xb);
 x4(Mc+8,2);
 x4(Mc+12,0);
 Mc[16]=bb;
 memcpy(Mc+17,o+1,3);
-x4(Mc+20,Lb);
-Mc[24]=cb;
+x4(Mc+20,cb);
+Mc[24]=db;
 z3(Mc+25);
 Mc[28]=Rb;
 memcpy(Mc+29,o+13,3);
 x4(Mc+32,Sb);
-w8(c+8,Jb+1);}
+w8(c+8,Kb+1);}
 break;
 case 37:w4(j,Yb);
 x8(j+4,r8(i));
 fill_integer_476(b,c,Xb,j,o);
 break;
-case 38:Nc=Jb+1;
-Oc=rp(c)+Jb*36;
+case 38:Nc=Kb+1;
+Oc=rp(c)+Kb*36;
 *Oc=3;
 Oc[1]=0;
 if(Wb&1){
@@ -57977,23 +58129,23 @@ x2(Oc+2,20);
 z32(Oc+4);
 w8(c+8,Nc);}
 break;
-case 39:Pc=rp(c)+Jb*36;
+case 39:Pc=rp(c)+Kb*36;
 *Pc=3;
 Pc[1]=0;
 x2(Pc+2,21);
 z32(Pc+4);
-w8(c+8,Jb+1);
+w8(c+8,Kb+1);
 break;
-case 40:Qc=rp(c)+Jb*36;
+case 40:Qc=rp(c)+Kb*36;
 x4(Qc,0);
 x4(Qc+4,Xb);
 x4(Qc+8,8);
 x4(Qc+12,0);
 x4(Qc+16,0);
 x4(Qc+20,0);
-Qc[24]=cb;
+Qc[24]=db;
 z11(Qc+25);
-w8(c+8,Jb+1);
+w8(c+8,Kb+1);
 break;
 case 41:fill_encoding_literal_a7e(c,Xb,o);
 break;
@@ -58034,15 +58186,15 @@ Tc=Rc[11];
 Uc=q4(Rc+16);
 Vc=q4(Rc+20);
 memcpy(h,Rc+8,3);
-if(cb<2)push_bare_366(b,c,Sc,h,Tc,Uc,Vc,cb);
+if(db<2)push_bare_366(b,c,Sc,h,Tc,Uc,Vc,db);
 else{
-Wc=rp(c)+Jb*36;
+Wc=rp(c)+Kb*36;
 x4(Wc,0);
 x4(Wc+4,Sc);
 z16(Wc+8);
-Wc[24]=cb;
+Wc[24]=db;
 z11(Wc+25);
-w8(c+8,Jb+1);}
+w8(c+8,Kb+1);}
 ;}
 else fill_full_b26(b,c,Pb,o);
 break;
@@ -58052,7 +58204,7 @@ Yc=q4(Xc+4);
 Zc=q4(Xc+8);
 ad=q4(Xc+12);
 if(Zc<ad){
-bd=Jb*36;
+bd=Kb*36;
 cd=rp(c)+bd;
 *cd=3;
 cd[1]=0;
@@ -58069,8 +58221,8 @@ ed[72]=3;
 ed[73]=0;
 x2(ed+74,22);
 z32(ed+76);
-fd=Jb+3;}
-else fd=Jb;
+fd=Kb+3;}
+else fd=Kb;
 gd=rp(c)+fd*36;
 x4(gd,0);
 x4(gd+4,Yc);
@@ -58078,7 +58230,7 @@ x4(gd+8,7);
 x4(gd+12,0);
 x4(gd+16,0);
 x4(gd+20,0);
-gd[24]=cb;
+gd[24]=db;
 z11(gd+25);
 w8(c+8,fd+1);}
 break;
@@ -58087,19 +58239,21 @@ break;
 default:fill_expand_aee(b,c,Pb,ab,o);
 break;}
 goto L5;}
-yb=3;
+zb=3;
 L15:hd=0;
-id=yb;
+id=zb;
 goto L17;
 L10:w4(q,Ya);
 w4(q+4,Za);
 w4(q+8,ab);
-x8(q+12,bb);
-q[20]=cb;
+q[12]=bb;
+memcpy(q+13,D-19,3);
+w4(q+16,cb);
+q[20]=db;
 memcpy(q+21,D-11,3);
-q[24]=db;
+q[24]=eb;
 memcpy(q+25,D-7,3);
-w4(q+28,eb);
+w4(q+28,fb);
 print_special_item_011(p,b,q,c,d,e,f,g);
 if(*p==0)goto L5;
 hd=r4(p+8);
@@ -58638,546 +58792,549 @@ L1:return d;
 /* sym_print::entries::print_special_item */
 static void print_special_item_011(u8* a,u8* b,u8* c,u8* d,u8* e,u8* f,u8* g,u8 h)
 {
-u8 i[3],j[3],k[3],n[3];
-A16 u8 l[12],m[12],o[16],p[16],q[24],r[20],s[80],t[32],u[12],v[32],w[76],x[32];
-u32 y,z,A,D,F,K,N,P,T,U,ka,qa,ra,Ja,Ka,Qa,Ra,Za,eb,ib,lb,qb,rb,sb,xb,Gb,mc,oc,pc,sc,tc,uc;
-u8 B,C,E,O,Q,ca,fa,ja,la,oa,pa,wa,Na,hb,jb,kb,ob,pb,ub,vb,wb,zb,Lb,Ob,Sb,lc,nc;
-u64 G,I,J,L,R,S,W,X,ba,da,ea,ga,ia,ma,sa,ta,ua,va,xa,ya,za,Aa,Fa,Ga,Ha,Ia,La,Ma,Oa,Sa,Ta,Ua,Va,ab,bb,cb,db,tb,Cb,Vb,Yb,bc,gc,vc,zc,Bc,Dc;
-u8 *H,*M,*V,*Y,*Z,*aa,*ha,*na,*Ba,*Ca,*Da,*Ea,*Pa,*fb,*gb,*mb,*nb,*yb,*Ab,*Bb,*Db,*Eb,*Fb,*Hb,*Jb,*Mb,*Pb,*Rb,*Tb,*Ub,*Wb,*Xb,*Zb,*ac,*cc,*dc,*ec,*fc,*hc,*ic,*jc,*kc,*qc,*rc,*wc,*xc,*yc,*Ac,*Cc;
-s_64_64 Wa,Xa,Ya;
-u16 Ib,Kb,Nb,Qb;
-z12(u);
-z76(w);
-z32(x);
-memcpy(v,c,32);
-y=r4(v);
-z=r4(v+4);
-A=r4(v+8);
-B=v[20];
+u8 i[3],j[3],k[3],l[3],o[3];
+A16 u8 m[12],n[12],p[16],q[16],r[24],s[20],t[80],u[32],v[12],w[32],x[76],y[32];
+u32 z,A,B,D,G,L,O,R,V,W,ma,pa,ua,va,Ma,Na,Ta,Ua,cb,kb,nb,sb,tb,ub,zb,Ib,oc,qc,rc,uc,vc,wc;
+u8 C,E,F,P,Q,S,ea,ha,la,na,oa,qa,sa,ta,Aa,Qa,jb,lb,mb,qb,rb,wb,xb,yb,Bb,Nb,Qb,Ub,nc,pc;
+u64 H,J,K,M,T,U,Y,Z,da,fa,ga,ia,ka,wa,xa,ya,za,Ba,Ca,Da,Ea,Ja,Ka,La,Oa,Pa,Ra,Va,Wa,Xa,Ya,db,eb,fb,gb,vb,Eb,Xb,ac,dc,ic,xc,Bc,Dc,Fc;
+u8 *I,*N,*X,*aa,*ba,*ca,*ja,*ra,*Fa,*Ga,*Ha,*Ia,*Sa,*hb,*ib,*ob,*pb,*Ab,*Cb,*Db,*Fb,*Gb,*Hb,*Jb,*Lb,*Ob,*Rb,*Tb,*Vb,*Wb,*Yb,*Zb,*bc,*cc,*ec,*fc,*gc,*hc,*jc,*kc,*lc,*mc,*sc,*tc,*yc,*zc,*Ac,*Cc,*Ec;
+s_64_64 Za,ab,bb;
+u16 Kb,Mb,Pb,Sb;
+z12(v);
+z76(x);
+z32(y);
+memcpy(w,c,32);
+z=r4(w);
+A=r4(w+4);
+B=r4(w+8);
 if(h){
-if(A==0){
-if(r8(f+80)>y){
-if(*(rp(f+72)+(i64)((u64)y*12)+8)&1){
-C=v[12];
-D=r4(v+16);
-E=v[24];
-F=r4(v+28);
-G=((((u64)y<<5)|(z&31))+(((E==0?0:((u64)F<<16)+65536)+(C==0?0:(u64)D+1))<<29))*0x9e3779b97f4a7c15u;
-H=rp(f+48);
-I=r8(f+56);
-J=G;
-K=0;
+if(B==0){
+if(r8(f+80)>z){
+if(*(rp(f+72)+(i64)((u64)z*12)+8)&1){
+C=w[12];
+D=r4(w+16);
+E=w[20];
+F=w[24];
+G=r4(w+28);
+H=((((u64)z<<5)|(A&31))+(((F==0?0:((u64)G<<16)+65536)+(C==0?0:(u64)D+1))<<29))*0x9e3779b97f4a7c15u;
+I=rp(f+48);
+J=r8(f+56);
+K=H;
 L=0;
-L1:if(L>=I){
-N=F;
-O=E;
-P=D;
-Q=C;
-R=L;
+M=0;
+L1:if(M>=J){
+O=G;
+P=F;
+Q=E;
+R=D;
+S=C;
+T=M;
 goto L2;}
-M=H+(i64)(L<<4);
-if(r8(M)==G){
-N=F;
-O=E;
-P=D;
-Q=C;
-R=L;
+N=I+(i64)(M<<4);
+if(r8(N)==H){
+O=G;
+P=F;
+Q=E;
+R=D;
+S=C;
+T=M;
 goto L2;}
-S=fshl64(J,J,1);
-T=r4(M+(i64)(u64)((S&1)==0?8:12));
-U=K+1;
-if(U!=64){
-J=S;
+U=fshl64(K,K,1);
+V=r4(N+(i64)(u64)((U&1)==0?8:12));
+W=L+1;
+if(W!=64){
 K=U;
-L=T;
+L=W;
+M=V;
 goto L1;}
-N=F;
-O=E;
-P=D;
-Q=C;
-R=T;
+O=G;
+P=F;
+Q=E;
+R=D;
+S=C;
+T=V;
 goto L2;}}}}
 else{
-if(z==0){
-V=rp(b+24);
-W=(u64)y*48;
-if(*(V+(i64)W)!=12){
-X=W;
-Y=V;
+if(A==0){
+X=rp(b+24);
+Y=(u64)z*48;
+if((u8)(*(X+(i64)Y)-11)>=3){
+Z=Y;
+aa=X;
 goto L3;}
-switch(B){
-case 0:case 2:N=r4(v+28);
-O=v[24];
-P=r4(v+16);
-Q=v[12];
-R=y&63;
-goto L2;
-case 1:case 3:X=W;
-Y=V;
-goto L3;
-default:NEVER;
-}}}
-if(z>1)goto L4;
-X=(u64)y*48;
-Y=rp(b+24);
-L3:Z=Y+(i64)X;
-if(*Z==25){
-aa=Y+(i64)((u64)q4(Z+4)*48);
-if(*aa==25){
-ba=(u64)q4(aa+4)*48;
-if(*(Y+(i64)ba)!=25)goto L4;
-ca=0;
-da=ba;
-L5:ea=(u64)q4(Y+(i64)da+4)*48;
-if(*(Y+(i64)ea)!=25)goto L4;
-if(ca)goto L6;
-ca=1;
-da=ea;
+O=r4(w+28);
+P=w[24];
+Q=w[20];
+R=r4(w+16);
+S=w[12];
+T=z&63;
+goto L2;}}
+if(A>1)goto L4;
+Z=(u64)z*48;
+aa=rp(b+24);
+L3:ba=aa+(i64)Z;
+if(*ba==25){
+ca=aa+(i64)((u64)q4(ba+4)*48);
+if(*ca==25){
+da=(u64)q4(ca+4)*48;
+if(*(aa+(i64)da)!=25)goto L4;
+ea=0;
+fa=da;
+L5:ga=(u64)q4(aa+(i64)fa+4)*48;
+if(*(aa+(i64)ga)!=25)goto L4;
+if(ea)goto L6;
+ea=1;
+fa=ga;
 goto L5;}
-fa=0;
-ga=X;
-L7:ha=Y+(i64)((u64)q4(Y+(i64)ga+4)*48);
-if(*ha!=32)goto L4;
-if(!(!(ha[1]&1||ha[2]&1)&&ha[3]&1))goto L4;
-ia=(u64)q4(ha+4)*48;
-if(*(Y+(i64)ia)!=25)goto L4;
-if(!fa){
-fa=1;
-ga=ia;
+ha=0;
+ia=Z;
+L7:ja=aa+(i64)((u64)q4(aa+(i64)ia+4)*48);
+if(*ja!=32)goto L4;
+if(!(!(ja[1]&1||ja[2]&1)&&ja[3]&1))goto L4;
+ka=(u64)q4(ja+4)*48;
+if(*(aa+(i64)ka)!=25)goto L4;
+if(!ha){
+ha=1;
+ia=ka;
 goto L7;}
-L6:memcpy(t,c,32);
-z80(s);
-run_of_1dc(s,b,t);
-ja=*s;
-memcpy(w,s+4,76);
-if(ja==1){
-memcpy(x,c,32);
-print_run_fa3(u,x,w,d,f,g,h);
-*a=*u;
-x4(a+4,u[4]);
-x4(a+8,r4(u+8));
+L6:memcpy(u,c,32);
+z80(t);
+run_of_1dc(t,b,u);
+la=*t;
+memcpy(x,t+4,76);
+if(la==1){
+memcpy(y,c,32);
+print_run_fa3(v,y,x,d,f,g,h);
+*a=*v;
+x4(a+4,v[4]);
+x4(a+8,r4(v+8));
 goto L8;}}
-L4:ka=r4(v+28);
-la=v[24];
-ma=q8(v+12);
+L4:ma=r4(w+28);
+na=w[24];
+oa=w[20];
+pa=r4(w+16);
+qa=w[12];
 goto L9;
-L2:if(R<r8(f+8)){
-na=rp(f)+(i64)(R*56);
-if(r4(na)==y){
-if(r4(na+4)==z){
-if(r4(na+8)==A){
-oa=Q==1;
-if(na[12]==1){
-if(!oa)goto L10;
-if(r4(na+16)!=P)goto L10;}
+L2:if(T<r8(f+8)){
+ra=rp(f)+(i64)(T*56);
+if(r4(ra)==z){
+if(r4(ra+4)==A){
+if(r4(ra+8)==B){
+sa=S==1;
+if(ra[12]==1){
+if(!sa)goto L10;
+if(r4(ra+16)!=R)goto L10;}
 else {
-if(oa)goto L10;}
-if(na[20]==B){
-pa=O==1;
-if(na[24]==1){
-if(!pa)goto L10;
-if(r4(na+28)!=N)goto L10;}
+if(sa)goto L10;}
+if(ra[20]==Q){
+ta=P==1;
+if(ra[24]==1){
+if(!ta)goto L10;
+if(r4(ra+28)!=O)goto L10;}
 else {
-if(pa)goto L10;}
-if(r4(na+40)<=r4(g+4)-r4(g)){
-ra=r4(na+32);
-sa=r8(e+8);
-ta=(u64)r4(na+36)-ra;
-ua=ta+sa;
-if(ua>sa){
-va=r8(e+16);
-if(ta>va-sa){
-wa=grow_amortized_68b(e,ta);
-if(!wa){
-qa=4;
-goto L11;}
-xa=r8(e+8);
-ya=xa+ta;
+if(ta)goto L10;}
+if(r4(ra+40)<=r4(g+4)-r4(g)){
+va=r4(ra+32);
+wa=r8(e+8);
+xa=(u64)r4(ra+36)-va;
+ya=xa+wa;
+if(ya>wa){
 za=r8(e+16);
-Aa=xa;}
+if(xa>za-wa){
+Aa=grow_amortized_68b(e,xa);
+if(!Aa){
+ua=4;
+goto L11;}
+Ba=r8(e+8);
+Ca=Ba+xa;
+Da=r8(e+16);
+Ea=Ba;}
 else{
-ya=ua;
-za=va;
-Aa=sa;}
-Ba=rp(e);
-if(Aa<ya)memset(Ba+(i64)Aa,0,ta);
-wp(e,Ba);
-w8(e+8,ya);
-w8(e+16,za);}
+Ca=ya;
+Da=za;
+Ea=wa;}
+Fa=rp(e);
+if(Ea<Ca)memset(Fa+(i64)Ea,0,xa);
+wp(e,Fa);
+w8(e+8,Ca);
+w8(e+16,Da);}
 else {
-if(sa>ua)w8(e+8,ua);}
-Ca=rp(e);
-Da=Ca+(i64)sa;
-Ea=Ca+(i64)ra;
-if(sa-ra<ta)copy_bits_4f4(Ea,Da,ta);
-else memmove(Da,Ea,ta);
-Fa=r8(g+8)+r8(na+48);
-w4(g,r4(g)+r4(na+40));
-w8(g+8,Fa);
-Ga=r8(d+8);
-if(Ga!=0)w8(d+8,Ga-1);
+if(wa>ya)w8(e+8,ya);}
+Ga=rp(e);
+Ha=Ga+(i64)wa;
+Ia=Ga+(i64)va;
+if(wa-va<xa)copy_bits_4f4(Ia,Ha,xa);
+else memmove(Ha,Ia,xa);
+Ja=r8(g+8)+r8(ra+48);
+w4(g,r4(g)+r4(ra+40));
+w8(g+8,Ja);
+Ka=r8(d+8);
+if(Ka!=0)w8(d+8,Ka-1);
 *a=0;
 x4(a+4,0);
 x4(a+8,0);
 goto L8;}
-qa=3;
+ua=3;
 L11:*a=1;
-x4(a+4,qa);
+x4(a+4,ua);
 x4(a+8,0);
 goto L8;}}}}}
-L10:Ha=q8(v+12);
-Ia=r8(d+8)-1;
-Ja=r8(e+8);
-Ka=r4(g);
-La=r8(g+8);
-memcpy(j,c+21,3);
-memcpy(k,c+25,3);
-Ma=r8(f+32);
-if(r8(f+40)==Ma){
-Na=grow_amortized_ab4(f+24);
-if(!Na)goto L12;
-Oa=r8(f+32);}
-else Oa=Ma;
-Pa=rp(f+24)+Oa*56;
-x4(Pa,y);
-x4(Pa+4,z);
-x4(Pa+8,A);
-x8(Pa+12,Ha);
-Pa[20]=B;
-memcpy(Pa+21,j,3);
-Pa[24]=O;
-memcpy(Pa+25,k,3);
-x4(Pa+28,N);
-x8(Pa+32,Ia);
-x4(Pa+40,Ja);
-x4(Pa+44,Ka);
-x8(Pa+48,La);
-w8(f+32,Oa+1);
-L12:ka=N;
-la=O;
-ma=Ha;
-L9:Qa=r4(g);
-if(r4(g+4)!=Qa){
-Sa=r8(d+8);
-Ta=r8(d+16);
-if(Ta-Sa<8){
-Ua=umax64(Sa,8);
-if(Ua>(Sa^18446744073709551615u)){
-Ra=4;
+L10:La=r8(d+8)-1;
+Ma=r8(e+8);
+Na=r4(g);
+Oa=r8(g+8);
+memcpy(j,c+13,3);
+memcpy(k,c+21,3);
+memcpy(l,c+25,3);
+Pa=r8(f+32);
+if(r8(f+40)==Pa){
+Qa=grow_amortized_ab4(f+24);
+if(!Qa)goto L12;
+Ra=r8(f+32);}
+else Ra=Pa;
+Sa=rp(f+24)+Ra*56;
+x4(Sa,z);
+x4(Sa+4,A);
+x4(Sa+8,B);
+Sa[12]=S;
+memcpy(Sa+13,j,3);
+x4(Sa+16,R);
+Sa[20]=Q;
+memcpy(Sa+21,k,3);
+Sa[24]=P;
+memcpy(Sa+25,l,3);
+x4(Sa+28,O);
+x8(Sa+32,La);
+x4(Sa+40,Ma);
+x4(Sa+44,Na);
+x8(Sa+48,Oa);
+w8(f+32,Ra+1);
+L12:ma=O;
+na=P;
+oa=Q;
+pa=R;
+qa=S;
+L9:Ta=r4(g);
+if(r4(g+4)!=Ta){
+Va=r8(d+8);
+Wa=r8(d+16);
+if(Wa-Va<8){
+Xa=umax64(Va,8);
+if(Xa>(Va^18446744073709551615u)){
+Ua=4;
 goto L13;}
-Va=Ua+Sa;
-if(Va>=0x38e38e38e38e38fu){
-Ra=4;
+Ya=Xa+Va;
+if(Ya>=0x38e38e38e38e38fu){
+Ua=4;
 goto L13;}
-if(Ta==0){
-Wa=port_rattle_alloc(Va*36,4);
-if(!(u8)(Wa.f0&1)){
-Ra=4;
+if(Wa==0){
+Za=port_rattle_alloc(Ya*36,4);
+if(!(u8)(Za.f0&1)){
+Ua=4;
 goto L13;}
-Xa=Wa;}
+ab=Za;}
 else{
-Ya=port_rattle_realloc(rp(d),Sa*36,Va*36,4);
-if(!(u8)(Ya.f0&1)){
-Ra=4;
+bb=port_rattle_realloc(rp(d),Va*36,Ya*36,4);
+if(!(u8)(bb.f0&1)){
+Ua=4;
 goto L13;}
-Xa=Ya;}
-wp(d,(u8*)Xa.f1);
-w8(d+16,Va);
-Za=r4(g);}
-else Za=Qa;
-ab=r8(g+8)+1;
-w4(g,Za+1);
-w8(g+8,ab);
-bb=r8(d+8);
-if(bb==0)cb=0;
+ab=bb;}
+wp(d,(u8*)ab.f1);
+w8(d+16,Ya);
+cb=r4(g);}
+else cb=Ta;
+db=r8(g+8)+1;
+w4(g,cb+1);
+w8(g+8,db);
+eb=r8(d+8);
+if(eb==0)fb=0;
 else{
-db=bb-1;
-w8(d+8,db);
-cb=db;}
-eb=ma>>32;
-fb=rp(b+24);
-gb=fb+(i64)((u64)y*48);
-hb=*gb==47;
-ib=hb?q4(gb+4):y;
-jb=la!=0;
-kb=jb||hb;
-lb=jb?ka:(hb?q4(gb+8):0);
-w4(r,(u32)ma&255);
-w4(r+4,eb);
-r[8]=B;
-z3(r+9);
-w4(r+12,kb);
-w4(r+16,lb);
-switch(z){
-case 0:z16(p);
-z24(q);
-mb=rp(b);
-nb=fb+(i64)((u64)ib*48);
-ob=*nb;
-pb=nb[1];
-qb=q4(nb+4);
-rb=q4(nb+8);
-sb=q4(nb+12);
-tb=q8(nb+16);
-ub=rb;
-vb=rb>>8;
-wb=rb>>16;
-switch(ob){
-case 9:w8(o,0);
-*o=ub;
-o[1]=vb;
-o[2]=wb;
-w4(o+4,sb);
-w8(o+8,tb);
-if(ub==0){
-xb=tb;
-if(sb!=xb){
-yb=mb+(i64)sb;
-if(!((tb&4294967295u)-sb<10||*yb!=95)){
-zb=parts_equal_58b((u8*)t_35ad,10,yb,10);
-if(zb){
-Ab=rp(d)+cb*36;
-*Ab=3;
-Ab[1]=0;
-x2(Ab+2,35);
-z32(Ab+4);
-w8(d+8,cb+1);
+gb=eb-1;
+w8(d+8,gb);
+fb=gb;}
+hb=rp(b+24);
+ib=hb+(i64)((u64)z*48);
+jb=*ib==47;
+kb=jb?q4(ib+4):z;
+lb=na!=0;
+mb=lb||jb;
+nb=lb?ma:(jb?q4(ib+8):0);
+w4(s,qa);
+w4(s+4,pa);
+s[8]=oa;
+z3(s+9);
+w4(s+12,mb);
+w4(s+16,nb);
+switch(A){
+case 0:z16(q);
+z24(r);
+ob=rp(b);
+pb=hb+(i64)((u64)kb*48);
+qb=*pb;
+rb=pb[1];
+sb=q4(pb+4);
+tb=q4(pb+8);
+ub=q4(pb+12);
+vb=q8(pb+16);
+wb=tb;
+xb=tb>>8;
+yb=tb>>16;
+switch(qb){
+case 9:w8(p,0);
+*p=wb;
+p[1]=xb;
+p[2]=yb;
+w4(p+4,ub);
+w8(p+8,vb);
+if(wb==0){
+zb=vb;
+if(ub!=zb){
+Ab=ob+(i64)ub;
+if(!((vb&4294967295u)-ub<10||*Ab!=95)){
+Bb=parts_equal_58b((u8*)t_35ad,10,Ab,10);
+if(Bb){
+Cb=rp(d)+fb*36;
+*Cb=3;
+Cb[1]=0;
+x2(Cb+2,35);
+z32(Cb+4);
+w8(d+8,fb+1);
 goto L14;}}}
-if(sb<xb){
-Bb=rp(d)+cb*36;
-*Bb=1;
-z3(Bb+1);
-x4(Bb+4,sb);
-x4(Bb+8,xb);
-z24(Bb+12);
-w8(d+8,cb+1);}}
-else fill_rare_piece_017(b,d,o,r);
+if(ub<zb){
+Db=rp(d)+fb*36;
+*Db=1;
+z3(Db+1);
+x4(Db+4,ub);
+x4(Db+8,zb);
+z24(Db+12);
+w8(d+8,fb+1);}}
+else fill_rare_piece_017(b,d,p,s);
 L14:break;
-case 10:Cb=cb*36;
-Db=rp(d)+Cb;
-x4(Db,0);
-x4(Db+4,ib);
-x4(Db+8,6);
-x4(Db+12,0);
-memcpy(Db+16,r,20);
-Eb=rp(d)+(i64)Cb;
-Eb[36]=3;
-Eb[37]=0;
-x2(Eb+38,7);
-z32(Eb+40);
-w8(d+8,cb+2);
-break;
-case 11:*p=ub;
-p[1]=vb;
-p[2]=wb;
-w4(p+4,sb);
-w8(p+8,tb);
-fill_within_6bb(b,d,ib,qb,p,r);
-break;
-case 12:fill_instance_1f0(b,d,qb,rb,r);
-break;
-case 13:own_entity_238(q,b,rb,r);
-Fb=rp(d)+cb*36;
-Gb=r4(q);
+case 10:Eb=fb*36;
+Fb=rp(d)+Eb;
 x4(Fb,0);
-x4(Fb+4,Gb);
-x4(Fb+8,0);
+x4(Fb+4,kb);
+x4(Fb+8,6);
 x4(Fb+12,0);
-memcpy(Fb+16,q+4,20);
-w8(d+8,cb+1);
+memcpy(Fb+16,s,20);
+Gb=rp(d)+(i64)Eb;
+Gb[36]=3;
+Gb[37]=0;
+x2(Gb+38,7);
+z32(Gb+40);
+w8(d+8,fb+2);
 break;
-case 14:Hb=rp(d)+cb*36;
+case 11:*q=wb;
+q[1]=xb;
+q[2]=yb;
+w4(q+4,ub);
+w8(q+8,vb);
+fill_within_6bb(b,d,kb,sb,q,s);
+break;
+case 12:fill_instance_1f0(b,d,sb,tb,s);
+break;
+case 13:own_entity_238(r,b,tb,s);
+Hb=rp(d)+fb*36;
+Ib=r4(r);
 x4(Hb,0);
-x4(Hb+4,qb);
+x4(Hb+4,Ib);
 x4(Hb+8,0);
 x4(Hb+12,0);
-memcpy(Hb+16,r,20);
-w8(d+8,cb+1);
+memcpy(Hb+16,r+4,20);
+w8(d+8,fb+1);
 break;
-case 15:fill_tagged_146(d,qb,rb,sb,r);
+case 14:Jb=rp(d)+fb*36;
+x4(Jb,0);
+x4(Jb+4,sb);
+x4(Jb+8,0);
+x4(Jb+12,0);
+memcpy(Jb+16,s,20);
+w8(d+8,fb+1);
 break;
-case 17:Ib=abbreviation_6bb(pb);
-if(Ib!=60){
-Jb=rp(d)+cb*36;
-*Jb=3;
-Jb[1]=0;
-x2(Jb+2,Ib);
-z32(Jb+4);
-w8(d+8,cb+1);}
+case 15:fill_tagged_146(d,sb,tb,ub,s);
 break;
-case 18:fill_parameter_f0e(b,d,qb,rb,0,r);
+case 17:Kb=abbreviation_6bb(rb);
+if(Kb!=60){
+Lb=rp(d)+fb*36;
+*Lb=3;
+Lb[1]=0;
+x2(Lb+2,Kb);
+z32(Lb+4);
+w8(d+8,fb+1);}
 break;
-case 0:case 1:case 2:case 3:case 4:case 5:case 6:case 7:case 8:case 16:case 19:case 20:case 21:case 22:case 23:case 24:case 25:case 26:case 27:case 28:case 29:case 30:case 31:case 32:case 33:case 34:case 35:case 36:case 37:case 38:case 39:case 40:case 41:case 42:case 43:case 44:case 45:case 46:case 47:Kb=q2(nb+2);
-switch(ob){
-case 20:Lb=pb-97;
-if(Lb<26){
-if((((u64)1<<Lb)&1278976)==0){
-Mb=rp(d)+cb*36;
-Nb=r2((u8*)t_91f6+(u64)Lb*2);
-*Mb=3;
-Mb[1]=0;
-x2(Mb+2,Nb);
-z32(Mb+4);
-w8(d+8,cb+1);}}
+case 18:fill_parameter_f0e(b,d,sb,tb,0,s);
 break;
-case 21:Ob=pb-97;
-if(Ob<21){
-if((((u64)1<<Ob)&777794)==0){
-Pb=rp(d)+cb*36;
-Qb=r2((u8*)t_1a3f+(u64)Ob*2);
-*Pb=3;
-Pb[1]=0;
-x2(Pb+2,Qb);
-z32(Pb+4);
-w8(d+8,cb+1);}}
+case 0:case 1:case 2:case 3:case 4:case 5:case 6:case 7:case 8:case 16:case 19:case 20:case 21:case 22:case 23:case 24:case 25:case 26:case 27:case 28:case 29:case 30:case 31:case 32:case 33:case 34:case 35:case 36:case 37:case 38:case 39:case 40:case 41:case 42:case 43:case 44:case 45:case 46:case 47:Mb=q2(pb+2);
+switch(qb){
+case 20:Nb=rb-97;
+if(Nb<26){
+if((((u64)1<<Nb)&1278976)==0){
+Ob=rp(d)+fb*36;
+Pb=r2((u8*)t_91f6+(u64)Nb*2);
+*Ob=3;
+Ob[1]=0;
+x2(Ob+2,Pb);
+z32(Ob+4);
+w8(d+8,fb+1);}}
 break;
-case 24:if(rb!=qb){
-Rb=mb+(i64)qb;
-if(!((u64)rb-qb<10||*Rb!=95)){
-Sb=parts_equal_58b((u8*)t_35ad,10,Rb,10);
-if(Sb){
-Tb=rp(d)+cb*36;
-*Tb=3;
-Tb[1]=0;
-x2(Tb+2,35);
-z32(Tb+4);
-w8(d+8,cb+1);
+case 21:Qb=rb-97;
+if(Qb<21){
+if((((u64)1<<Qb)&777794)==0){
+Rb=rp(d)+fb*36;
+Sb=r2((u8*)t_1a3f+(u64)Qb*2);
+*Rb=3;
+Rb[1]=0;
+x2(Rb+2,Sb);
+z32(Rb+4);
+w8(d+8,fb+1);}}
+break;
+case 24:if(tb!=sb){
+Tb=ob+(i64)sb;
+if(!((u64)tb-sb<10||*Tb!=95)){
+Ub=parts_equal_58b((u8*)t_35ad,10,Tb,10);
+if(Ub){
+Vb=rp(d)+fb*36;
+*Vb=3;
+Vb[1]=0;
+x2(Vb+2,35);
+z32(Vb+4);
+w8(d+8,fb+1);
 break;}}}
-if(qb<rb){
-Ub=rp(d)+cb*36;
-*Ub=1;
-z3(Ub+1);
-x4(Ub+4,qb);
-x4(Ub+8,rb);
-z24(Ub+12);
-w8(d+8,cb+1);}
+if(sb<tb){
+Wb=rp(d)+fb*36;
+*Wb=1;
+z3(Wb+1);
+x4(Wb+4,sb);
+x4(Wb+8,tb);
+z24(Wb+12);
+w8(d+8,fb+1);}
 break;
-case 25:fill_marked_395(b,d,qb,r);
+case 25:fill_marked_395(b,d,sb,s);
 break;
-case 26:fill_reference_bf6(b,d,qb,4,11,10,r);
+case 26:fill_reference_bf6(b,d,sb,4,11,10,s);
 break;
-case 27:fill_reference_bf6(b,d,qb,0,13,12,r);
+case 27:fill_reference_bf6(b,d,sb,0,13,12,s);
 break;
-case 28:fill_array_c4d(b,d,sb,r);
+case 28:fill_array_c4d(b,d,ub,s);
 break;
-case 29:fill_array_c4d(b,d,rb,r);
+case 29:fill_array_c4d(b,d,tb,s);
 break;
-case 31:Vb=cb*36;
-Wb=rp(d)+Vb;
-*Wb=3;
-Wb[1]=0;
-x2(Wb+2,4);
-z32(Wb+4);
-Xb=rp(d)+(i64)Vb;
-x4(Xb+36,0);
-x4(Xb+40,qb);
-x4(Xb+44,0);
-x4(Xb+48,0);
-memcpy(Xb+52,r,20);
-w8(d+8,cb+2);
+case 31:Xb=fb*36;
+Yb=rp(d)+Xb;
+*Yb=3;
+Yb[1]=0;
+x2(Yb+2,4);
+z32(Yb+4);
+Zb=rp(d)+(i64)Xb;
+x4(Zb+36,0);
+x4(Zb+40,sb);
+x4(Zb+44,0);
+x4(Zb+48,0);
+memcpy(Zb+52,s,20);
+w8(d+8,fb+2);
 break;
-case 30:fill_member_2fa(b,d,qb,rb,r);
+case 30:fill_member_2fa(b,d,sb,tb,s);
 break;
-case 32:*n=pb;
-x2(n+1,Kb);
-fill_qualified_left_bf3(b,d,n,qb,r);
+case 32:*o=rb;
+x2(o+1,Mb);
+fill_qualified_left_bf3(b,d,o,sb,s);
 break;
-case 33:fill_vector_eb1(d,qb,rb,sb,r);
+case 33:fill_vector_eb1(d,sb,tb,ub,s);
 break;
-case 34:Yb=cb*36;
-Zb=rp(d)+Yb;
-*Zb=3;
-Zb[1]=0;
-x2(Zb+2,18);
-z32(Zb+4);
-ac=rp(d)+(i64)Yb;
-x4(ac+36,0);
-x4(ac+40,qb);
-x4(ac+44,0);
-x4(ac+48,0);
-memcpy(ac+52,r,20);
-w8(d+8,cb+2);
+case 34:ac=fb*36;
+bc=rp(d)+ac;
+*bc=3;
+bc[1]=0;
+x2(bc+2,18);
+z32(bc+4);
+cc=rp(d)+(i64)ac;
+x4(cc+36,0);
+x4(cc+40,sb);
+x4(cc+44,0);
+x4(cc+48,0);
+memcpy(cc+52,s,20);
+w8(d+8,fb+2);
 break;
-case 22:fill_float_1e8(d,qb,rb,sb);
+case 22:fill_float_1e8(d,sb,tb,ub);
 break;
-case 23:bc=cb*36;
-cc=rp(d)+bc;
-*cc=3;
-cc[1]=0;
-x2(cc+2,pb==107?46:47);
-z32(cc+4);
-dc=rp(d)+(i64)bc;
-x4(dc+36,0);
-x4(dc+40,qb);
-x4(dc+44,0);
-x4(dc+48,0);
-memcpy(dc+52,r,20);
-w8(d+8,cb+2);
+case 23:dc=fb*36;
+ec=rp(d)+dc;
+*ec=3;
+ec[1]=0;
+x2(ec+2,rb==107?46:47);
+z32(ec+4);
+fc=rp(d)+(i64)dc;
+x4(fc+36,0);
+x4(fc+40,sb);
+x4(fc+44,0);
+x4(fc+48,0);
+memcpy(fc+52,s,20);
+w8(d+8,fb+2);
 break;
-case 0:case 1:case 2:case 3:case 4:case 5:case 6:case 7:case 8:case 9:case 10:case 11:case 12:case 13:case 14:case 15:case 16:case 17:case 18:case 19:case 35:case 36:case 37:case 38:case 39:case 40:case 41:case 42:case 43:case 44:case 45:case 46:case 47:w4(l,sb);
-x8(l+4,tb);
-switch(ob){
-case 36:fill_expansion_7b7(b,d,qb,r);
+case 0:case 1:case 2:case 3:case 4:case 5:case 6:case 7:case 8:case 9:case 10:case 11:case 12:case 13:case 14:case 15:case 16:case 17:case 18:case 19:case 35:case 36:case 37:case 38:case 39:case 40:case 41:case 42:case 43:case 44:case 45:case 46:case 47:w4(m,ub);
+x8(m+4,vb);
+switch(qb){
+case 36:fill_expansion_7b7(b,d,sb,s);
 break;
-case 44:ec=fb+(i64)((u64)qb*48);
-if(*(fb+(i64)((u64)(*ec==47?q4(ec+4):qb)*48))!=1){
-fc=rp(d)+cb*36;
-x4(fc,0);
-x4(fc+4,qb);
-x4(fc+8,2);
-x4(fc+12,0);
-fc[16]=ma;
-memcpy(fc+17,r+1,3);
-x4(fc+20,eb);
-fc[24]=B;
-z3(fc+25);
-fc[28]=kb;
-memcpy(fc+29,r+13,3);
-x4(fc+32,lb);
-w8(d+8,cb+1);}
+case 44:gc=hb+(i64)((u64)sb*48);
+if(*(hb+(i64)((u64)(*gc==47?q4(gc+4):sb)*48))!=1){
+hc=rp(d)+fb*36;
+x4(hc,0);
+x4(hc+4,sb);
+x4(hc+8,2);
+x4(hc+12,0);
+hc[16]=qa;
+memcpy(hc+17,s+1,3);
+x4(hc+20,pa);
+hc[24]=oa;
+z3(hc+25);
+hc[28]=mb;
+memcpy(hc+29,s+13,3);
+x4(hc+32,nb);
+w8(d+8,fb+1);}
 break;
-case 37:w4(m,rb);
-x8(m+4,r8(l));
-fill_integer_476(b,d,qb,m,r);
+case 37:w4(n,tb);
+x8(n+4,r8(m));
+fill_integer_476(b,d,sb,n,s);
 break;
-case 38:gc=cb+1;
-hc=rp(d)+cb*36;
-*hc=3;
-hc[1]=0;
-if(pb&1){
-x2(hc+2,19);
-z32(hc+4);
-w8(d+8,gc);}
+case 38:ic=fb+1;
+jc=rp(d)+fb*36;
+*jc=3;
+jc[1]=0;
+if(rb&1){
+x2(jc+2,19);
+z32(jc+4);
+w8(d+8,ic);}
 else{
-x2(hc+2,20);
-z32(hc+4);
-w8(d+8,gc);}
+x2(jc+2,20);
+z32(jc+4);
+w8(d+8,ic);}
 break;
-case 39:ic=rp(d)+cb*36;
-*ic=3;
-ic[1]=0;
-x2(ic+2,21);
-z32(ic+4);
-w8(d+8,cb+1);
+case 39:kc=rp(d)+fb*36;
+*kc=3;
+kc[1]=0;
+x2(kc+2,21);
+z32(kc+4);
+w8(d+8,fb+1);
 break;
-case 40:jc=rp(d)+cb*36;
-x4(jc,0);
-x4(jc+4,qb);
-x4(jc+8,8);
-x4(jc+12,0);
-x4(jc+16,0);
-x4(jc+20,0);
-jc[24]=B;
-z11(jc+25);
-w8(d+8,cb+1);
+case 40:lc=rp(d)+fb*36;
+x4(lc,0);
+x4(lc+4,sb);
+x4(lc+8,8);
+x4(lc+12,0);
+x4(lc+16,0);
+x4(lc+20,0);
+lc[24]=oa;
+z11(lc+25);
+w8(d+8,fb+1);
 break;
-case 41:fill_encoding_literal_a7e(d,qb,r);
+case 41:fill_encoding_literal_a7e(d,sb,s);
 break;
-case 35:fill_decltype_7a2(d,qb,r);
+case 35:fill_decltype_7a2(d,sb,s);
 break;
-case 42:fill_operation_6d8(b,d,pb,Kb,qb,rb,r);
+case 42:fill_operation_6d8(b,d,rb,Mb,sb,tb,s);
 break;
-case 43:fill_function_parameter_419(d,qb,rb);
+case 43:fill_function_parameter_419(d,sb,tb);
 break;
 case 0:case 1:case 2:case 3:case 4:case 5:case 6:case 7:case 8:case 9:case 10:case 11:case 12:case 13:case 14:case 15:case 16:case 17:case 18:case 19:case 20:case 21:case 22:case 23:case 24:case 25:case 26:case 27:case 28:case 29:case 30:case 31:case 32:case 33:case 34:case 45:case 46:case 47:break;
 default:NEVER;
@@ -59189,96 +59346,96 @@ break;
 default:NEVER;
 }
 break;
-case 1:fill_right_3bf(b,d,ib,r);
+case 1:fill_right_3bf(b,d,kb,s);
 break;
-case 2:fill_first_of_85e(b,d,ib,r);
+case 2:fill_first_of_85e(b,d,kb,s);
 break;
-case 3:fill_more_of_557(b,d,ib,r);
+case 3:fill_more_of_557(b,d,kb,s);
 break;
-case 4:fill_low_4b1(b,d,ib,r);
+case 4:fill_low_4b1(b,d,kb,s);
 break;
-case 5:fill_base_3b5(b,d,ib,r);
+case 5:fill_base_3b5(b,d,kb,s);
 break;
-case 6:fill_own_piece_0f9(b,d,ib,r);
+case 6:fill_own_piece_0f9(b,d,kb,s);
 break;
-case 7:fill_full_b26(b,d,ib,r);
+case 7:fill_full_b26(b,d,kb,s);
 break;
-case 8:kc=fb+(i64)((u64)ib*48);
-if(*kc==2){
-lc=r[8];
-mc=q4(kc+4);
-nc=kc[11];
-oc=q4(kc+16);
-pc=q4(kc+20);
-memcpy(i,kc+8,3);
-if(lc<2)push_bare_366(b,d,mc,i,nc,oc,pc,lc);
+case 8:mc=hb+(i64)((u64)kb*48);
+if(*mc==2){
+nc=s[8];
+oc=q4(mc+4);
+pc=mc[11];
+qc=q4(mc+16);
+rc=q4(mc+20);
+memcpy(i,mc+8,3);
+if(nc<2)push_bare_366(b,d,oc,i,pc,qc,rc,nc);
 else{
-qc=rp(d)+cb*36;
-x4(qc,0);
-x4(qc+4,mc);
-z16(qc+8);
-qc[24]=lc;
-z11(qc+25);
-w8(d+8,cb+1);}
+sc=rp(d)+fb*36;
+x4(sc,0);
+x4(sc+4,oc);
+z16(sc+8);
+sc[24]=nc;
+z11(sc+25);
+w8(d+8,fb+1);}
 ;}
-else fill_full_b26(b,d,ib,r);
+else fill_full_b26(b,d,kb,s);
 break;
-case 9:rc=fb+(i64)((u64)ib*48);
-if(*rc==46){
-sc=q4(rc+4);
-tc=q4(rc+8);
-uc=q4(rc+12);
-if(tc<uc){
-vc=cb*36;
-wc=rp(d)+vc;
-*wc=3;
-wc[1]=0;
-x2(wc+2,3);
-z32(wc+4);
-xc=rp(d)+(i64)vc;
-xc[36]=1;
-z3(xc+37);
-x4(xc+40,tc);
-x4(xc+44,uc);
-z24(xc+48);
-yc=rp(d)+(i64)vc;
-yc[72]=3;
-yc[73]=0;
-x2(yc+74,22);
-z32(yc+76);
-zc=cb+3;}
-else zc=cb;
-Ac=rp(d)+zc*36;
-x4(Ac,0);
-x4(Ac+4,sc);
-x4(Ac+8,7);
-x4(Ac+12,0);
-x4(Ac+16,0);
-x4(Ac+20,0);
-Ac[24]=B;
-z11(Ac+25);
-w8(d+8,zc+1);}
+case 9:tc=hb+(i64)((u64)kb*48);
+if(*tc==46){
+uc=q4(tc+4);
+vc=q4(tc+8);
+wc=q4(tc+12);
+if(vc<wc){
+xc=fb*36;
+yc=rp(d)+xc;
+*yc=3;
+yc[1]=0;
+x2(yc+2,3);
+z32(yc+4);
+zc=rp(d)+(i64)xc;
+zc[36]=1;
+z3(zc+37);
+x4(zc+40,vc);
+x4(zc+44,wc);
+z24(zc+48);
+Ac=rp(d)+(i64)xc;
+Ac[72]=3;
+Ac[73]=0;
+x2(Ac+74,22);
+z32(Ac+76);
+Bc=fb+3;}
+else Bc=fb;
+Cc=rp(d)+Bc*36;
+x4(Cc,0);
+x4(Cc+4,uc);
+x4(Cc+8,7);
+x4(Cc+12,0);
+x4(Cc+16,0);
+x4(Cc+20,0);
+Cc[24]=oa;
+z11(Cc+25);
+w8(d+8,Bc+1);}
 break;
-case 11:fill_declared_c70(b,d,ib,A,r);
+case 11:fill_declared_c70(b,d,kb,B,s);
 break;
-default:fill_expand_aee(b,d,ib,A,r);
+default:fill_expand_aee(b,d,kb,B,s);
 break;}
 if(h){
-Bc=Sa-1;
-Cc=rp(d);
-Dc=r8(d+8);
-if(r8(f+80)>y){
-if(Dc<Bc||(((u32)1<<(z&31))&r4(rp(f+72)+(i64)((u64)y*12)+4))!=0)goto L15;}
+Dc=Va-1;
+Ec=rp(d);
+Fc=r8(d+8);
+if(r8(f+80)>z){
+if(Fc<Dc||(((u32)1<<(A&31))&r4(rp(f+72)+(i64)((u64)z*12)+4))!=0)goto L15;}
 else {
-if(Dc<Bc)goto L15;}
-look_df9(f+72,v,Cc+(i64)(Bc*36),usub64(Dc,Bc));}
+if(Fc<Dc)goto L15;}
+look_df9(f+72,w,Ec+(i64)(Dc*36),usub64(Fc,Dc));}
 L15:*a=0;
 x4(a+4,0);
 x4(a+8,0);
 goto L8;}
-Ra=3;
+Ua=3;
 L13:*a=1;
-x4(a+4,Ra);
+x4(a+4,Ua);
 x4(a+8,0);
 L8:return;
 }
@@ -136998,995 +137155,946 @@ if(Q!=0)port_rattle_dealloc(P);
 return;
 }
 
-/* sym_short::rewriting::Rewriting::rewrite */
-static u8 rewrite_43c(u8* a,u8* b,u8 c,u8* d,u64 e,u64 f,u8* g)
+/* sym_short::rewriting::rewrite_or_remove */
+static u8 rewrite_or_remove_1ed(u8* a,u8* b,u8 c,u8* d,u64 e,u64 f,u8* g)
 {
-A16 u8 h[24];
-u64 i,m,n,o,p,s,t,u,w,B;
-u8 *j,*q,*v,*x;
-u8 k,l,y,z,A;
-v64 r;
-i=r8(g+8)-f;
-if(i>4){
-j=rp(g)+(i64)f;
-k=i>66;
-l=i>18;
-m=i-19;
-n=i-67;
-o=0;
-L1:if(k){
-p=umin64(n,o);
-q=j+(i64)p;
-r=v64_and(v64_eq(v64_at(q+2),v64_splat(100)),v64_eq(v64_at(q+3),v64_splat(58)));
-s=(((((u64)v16_top(r.p[1])<<16)|v16_top(r.p[0]))|((u64)v16_top(r.p[2])<<32))|((u64)v16_top(r.p[3])<<48))>>(o-p);
-t=s==0?p+64:cttz(s,64)+o;}
+u8 i[16],l[16];
+A16 u8 h[12],j[32],k[48],m[12],n[32],o[48],p[24],q[24],r[24],s[24],t[24];
+u64 u,y,z,A,B,E,F,G,I,O,Q,R,S,V,X,Y,Z,aa,ba,ea,fa,ga,ia,la,ma,oa,pa,qa,ra,sa,ta,ua,va,xa,ya,Aa,Ba,Ca,Ia,Ja,Ka,Ma,Na,Oa,Qa,Ra,Ta,Ua,Va,Ya,Za,ab,bb,cb,db,hb,ib,jb,kb,nb,ob,pb,rb,sb,vb,yb,zb,Ab,Bb,Db,Fb,Gb,Ib,Jb,Mb,Nb,Rb,Sb,Ub,Wb,Xb,Zb,ac,bc,cc,ec,hc,ic,jc,lc,mc,nc,pc,qc,rc,uc,wc,yc,Ac,Dc,Ec,Gc,Hc,Jc,Kc,Mc,Oc,Pc,Sc,Vc,Xc,ad,dd,ed,jd,ld,md,nd,sd,ud,xd,Ed,Hd,Ld,Md,Nd,Qd,Rd,Ud,Wd,Yd,ce,de,ee,ie,ke,me,ne,oe,pe,se,te,ue,xe,ze,Ae,Be,Ce,Ee,Fe,Ge,He,Ke,Le,Me,Oe,Qe,Re,Se,Te,Ve,We,Xe,Ye,Ze,af,bf,ef,ff,gf,hf,kf,lf,nf,pf,rf,sf,vf,xf,zf,Bf,Cf,Ef,Lf,Nf,Of,Qf,Rf,Sf,Vf,Wf,Xf,Yf,ag,cg,dg,eg,ig,kg,lg,mg,pg;
+u8 *v,*C,*H,*J,*T,*U,*W,*ca,*ha,*ja,*na,*wa,*Da,*Ea,*Fa,*Ha,*La,*Pa,*Wa,*Xa,*eb,*lb,*qb,*tb,*Ob,*Vb,*dc,*kc,*sc,*tc,*vc,*xc,*zc,*Cc,*Fc,*Ic,*Nc,*Zc,*cd,*fd,*kd,*od,*qd,*vd,*Id,*Kd,*Od,*Vd,*Zd,*be,*fe,*he,*le,*re,*ve,*we,*Je,*Pe,*uf,*Mf,*Tf,*Uf,*Zf,*fg,*gg,*hg,*ng,*og;
+u8 w,x,K,L,M,N,P,ka,za,Ga,Sa,fb,gb,ub,Cb,Eb,Kb,Lb,Pb,Qb,Tb,Yb,oc,Bc,Lc,Tc,Uc,Wc,Yc,bd,id,pd,td,Ad,Gd,Jd,Xd,ae,ge,je,qe,ye,De,Ie,Ne,Ue,jf,mf,of,qf,tf,wf,yf,Af,Df,Ff,Gf,Hf,If,Jf,Kf,Pf,bg,jg;
+v64 D,da,mb;
+v16 wb,cf;
+u16 xb,fc,gc,Qc,Rc,gd,hd,Bd,Dd,Sd,Td,df;
+u32 Hb,yd,zd,Cd,Fd;
+s_8_64 Pd;
+u=r8(g+8)-f;
+if(u>4){
+v=rp(g)+(i64)f;
+w=u>66;
+x=u>18;
+y=u-19;
+z=u-67;
+A=0;
+L1:if(w){
+B=umin64(z,A);
+C=v+(i64)B;
+D=v64_and(v64_eq(v64_at(C+2),v64_splat(100)),v64_eq(v64_at(C+3),v64_splat(58)));
+E=(((((u64)v16_top(D.p[1])<<16)|v16_top(D.p[0]))|((u64)v16_top(D.p[2])<<32))|((u64)v16_top(D.p[3])<<48))>>(A-B);
+F=E==0?B+64:cttz(E,64)+A;}
 else{
-if(l){
-u=umin64(m,o);
-v=j+(i64)u;
-w=(u64)(v16_eq(v16_at(v+2),splat(100))&v16_eq(v16_at(v+3),splat(58)))>>(o-u);
-t=w==0?u+16:cttz(w,64)+o;}
-else t=o;}
-if(i-t>=5){
-x=j+(i64)t;
-if(*x==115){
-if(x[1]==116){
-if(x[2]==100){
-if(x[3]==58){
-if(x[4]==58){
-if(t!=0){
-y=x[-1];
-if(y==58)goto L2;
-if(*((u8*)t_39e2+y)==49)goto L2;}
-if(c!=0){
-z=0;
-goto L3;}
-if(a[9]&1){
-z24(h);
-path_of_ea7(h,d,e);
-if(*h&1){
-z=0;
+if(x){
+G=umin64(y,A);
+H=v+(i64)G;
+I=(u64)(v16_eq(v16_at(H+2),splat(100))&v16_eq(v16_at(H+3),splat(58)))>>(A-G);
+F=I==0?G+16:cttz(I,64)+A;}
+else F=A;}
+if(u-F>=5){
+J=v+(i64)F;
+if(*J==115){
+if(J[1]==116){
+if(J[2]==100){
+if(J[3]==58){
+if(J[4]==58){
+if(F!=0){
+K=J[-1];
+if(K==58)goto L2;
+if(*((u8*)t_39e2+K)==49)goto L2;}
+L=c==0;
+if(L&&a[1]&1){
+z24(t);
+path_of_ea7(t,d,e);
+if(*t&1){
+M=0;
 goto L3;}}
-A=rewrite_8ff(a+8,b,f,g);
-if(!(A&1)){
-z=0;
-goto L3;}
-if(r8(g+8)<=f){
-z=1;
-goto L3;}
-w8(g+8,f);
-z=1;
-goto L3;}}}}}}
-L2:B=t+1;
-if(i-B>4){
-o=B;
-goto L1;}
-z=0;}
-else z=0;
-L3:return z;
-}
-
-/* sym_short::shortening::ShorteningRewrites::rewrite */
-static u8 rewrite_8ff(u8* a,u8* b,u64 c,u8* d)
-{
-u8 f[16],i[16];
-A16 u8 e[12],g[32],h[48],j[12],k[32],l[48],m[24],n[24],o[24],p[24];
-u8 q,u,x,D,E,U,ja,qa,Ca,Pa,Qa,eb,mb,ob,ub,vb,zb,Ab,Db,Ib,Yb,lc,vc,Dc,Ec,Gc,Ic,Lc,Sc,Zc,cd,id,od,sd,Hd,Kd,Qd,Td,ae,ie,ne,se,xe,Ee,Se,Ve,Xe,Ze,cf,ff,hf,kf,nf,pf,qf,rf,sf,tf,uf,zf,Lf,Tf;
-u8 *r,*z,*A,*C,*M,*R,*T,*X,*ga,*na,*oa,*pa,*ra,*va,*za,*Ga,*Ha,*Oa,*Va,*ab,*db,*yb,*Fb,*Nb,*Ub,*cc,*dc,*fc,*hc,*jc,*mc,*pc,*sc,*xc,*Jc,*Mc,*Pc,*Uc,*Yc,*ad,*ed,*qd,*td,*yd,*Fd,*Jd,*Ld,*Pd,*Rd,*Vd,*be,*fe,*ge,*te,*ze,*df,*wf,*Df,*Ef,*Jf,*Pf,*Qf,*Rf,*Xf,*Yf;
-u64 s,t,v,w,y,B,F,G,H,I,J,K,L,O,P,Q,S,V,W,Y,Z,aa,ba,ca,da,ea,fa,ha,ia,ka,la,ma,sa,ta,ua,wa,xa,ya,Aa,Ba,Da,Ea,Fa,Ia,Ja,Ka,La,Ma,Na,Ra,Sa,Ta,Ua,Xa,Ya,Za,bb,cb,fb,ib,jb,kb,lb,nb,pb,qb,sb,tb,wb,xb,Bb,Cb,Eb,Gb,Hb,Jb,Kb,Lb,Mb,Ob,Rb,Sb,Tb,Vb,Wb,Xb,Zb,ac,bc,ec,gc,ic,kc,nc,oc,qc,rc,tc,uc,wc,yc,zc,Cc,Fc,Hc,Kc,Nc,Oc,Tc,Vc,Wc,Xc,bd,dd,fd,md,pd,ud,vd,xd,Ad,Bd,Ed,Gd,Id,Md,Nd,Od,Sd,Ud,Wd,Xd,Yd,Zd,ce,de,ee,he,je,ke,le,me,oe,pe,qe,re,ue,ve,we,ye,Ae,Be,Ce,De,Fe,Ge,He,Ie,Je,Ke,Le,Oe,Pe,Qe,Re,Te,Ue,We,Ye,af,bf,ef,gf,jf,lf,mf,of,vf,xf,yf,Af,Bf,Cf,Ff,Gf,Hf,If,Kf,Mf,Nf,Of,Sf,Uf,Vf,Wf;
-v64 N,Wa;
-v16 gb,Me;
-u16 hb,Pb,Qb,Ac,Bc,Qc,Rc,jd,ld,Cd,Dd,Ne;
-u32 rb,gd,hd,kd,nd;
-s_8_64 zd;
-q=*a&1;
-r=rp(d)+(i64)c;
-s=r8(d+8)-c;
+else{
+if(!L){
+M=0;
+goto L3;}}
+N=*a&1;
 if(r8(b+8)!=0)w8(b+8,0);
-if(q){
-t=r8(b+16);
-if(s>t){
-u=grow_amortized_68b(b,s);
-if(!u){
-x=1;
-goto L1;}
-v=r8(b+16);
-w=r8(b+8);}
+if(N){
+O=r8(b+16);
+if(u>O){
+P=grow_amortized_68b(b,u);
+if(!P)goto L4;
+Q=r8(b+16);
+R=r8(b+8);}
 else{
-v=t;
-w=0;}
-y=w+s;
-z=rp(b);
+Q=O;
+R=0;}
+S=R+u;
+T=rp(b);
 z16(b+8);
-A=z+(i64)w;
-if((u64)A-(u64)r<s)copy_bits_4f4(r,A,s);
-else memmove(A,r,s);
-wp(b,z);
-w8(b+8,y);
-w8(b+16,v);
-B=y;
-C=z;}
+U=T+(i64)R;
+if((u64)U-(u64)v<u)copy_bits_4f4(v,U,u);
+else memmove(U,v,u);
+wp(b,T);
+w8(b+8,S);
+w8(b+16,Q);
+V=S;
+W=T;}
 else{
-if(s>4){
-D=s>66;
-E=s>18;
-F=s-19;
-G=s-67;
-H=0;
-I=0;
-J=0;
-L2:K=J;
-L3:if(D){
-L=umin64(G,K);
-M=r+(i64)L;
-N=v64_and(v64_eq(v64_at(M+2),v64_splat(100)),v64_eq(v64_at(M+3),v64_splat(58)));
-O=(((((u64)v16_top(N.p[1])<<16)|v16_top(N.p[0]))|((u64)v16_top(N.p[2])<<32))|((u64)v16_top(N.p[3])<<48))>>(K-L);
-P=O==0?L+64:cttz(O,64)+K;}
+X=0;
+Y=0;
+Z=0;
+L5:aa=Z;
+L6:if(w){
+ba=umin64(z,aa);
+ca=v+(i64)ba;
+da=v64_and(v64_eq(v64_at(ca+2),v64_splat(100)),v64_eq(v64_at(ca+3),v64_splat(58)));
+ea=(((((u64)v16_top(da.p[1])<<16)|v16_top(da.p[0]))|((u64)v16_top(da.p[2])<<32))|((u64)v16_top(da.p[3])<<48))>>(aa-ba);
+fa=ea==0?ba+64:cttz(ea,64)+aa;}
 else{
-if(E){
-Q=umin64(F,K);
-R=r+(i64)Q;
-S=(u64)(v16_eq(v16_at(R+2),splat(100))&v16_eq(v16_at(R+3),splat(58)))>>(K-Q);
-P=S==0?Q+16:cttz(S,64)+K;}
-else P=K;}
-if(s-P>=5){
-T=r+(i64)P;
-if(*T==115){
-if(T[1]==116){
-if(T[2]==100){
-if(T[3]==58){
-if(T[4]==58){
-if(P!=0){
-U=T[-1];
-if(U==58)goto L4;
-if(*((u8*)t_39e2+U)==49)goto L4;}
-V=P+5;
-W=s-V;
-z24(p);
-if(W>=3){
-X=r+(i64)V;
-if((*((u8*)t_59c0+X[2])&*((u8*)t_d6fe+*X))!=0){
-read_661(p,X,W);
-Y=r8(p);
-Z=r8(p+8);
-aa=r8(p+16);
-ba=Y+V;
-ca=ba+Z+aa;
-if(Y==0&&aa==0){
-da=H;
-ea=ca;
-fa=I;
-goto L5;}
-ga=r+(i64)I;
-ha=V-I;
-ia=r8(b+16);
-if(ha>ia-H){
-ja=grow_amortized_68b(b,ha);
-if(!ja){
-x=1;
-goto L1;}
-ka=r8(b+16);
-la=r8(b+8);}
+if(x){
+ga=umin64(y,aa);
+ha=v+(i64)ga;
+ia=(u64)(v16_eq(v16_at(ha+2),splat(100))&v16_eq(v16_at(ha+3),splat(58)))>>(aa-ga);
+fa=ia==0?ga+16:cttz(ia,64)+aa;}
+else fa=aa;}
+if(u-fa>=5){
+ja=v+(i64)fa;
+if(*ja==115){
+if(ja[1]==116){
+if(ja[2]==100){
+if(ja[3]==58){
+if(ja[4]==58){
+if(fa!=0){
+ka=ja[-1];
+if(ka==58)goto L7;
+if(*((u8*)t_39e2+ka)==49)goto L7;}
+la=fa+5;
+ma=u-la;
+z24(s);
+if(ma>=3){
+na=v+(i64)la;
+if((*((u8*)t_59c0+na[2])&*((u8*)t_d6fe+*na))!=0){
+read_661(s,na,ma);
+oa=r8(s);
+pa=r8(s+8);
+qa=r8(s+16);
+ra=oa+la;
+sa=ra+pa+qa;
+if(oa==0&&qa==0){
+ta=X;
+ua=sa;
+va=Y;
+goto L8;}
+wa=v+(i64)Y;
+xa=la-Y;
+ya=r8(b+16);
+if(xa>ya-X){
+za=grow_amortized_68b(b,xa);
+if(!za)goto L4;
+Aa=r8(b+16);
+Ba=r8(b+8);}
 else{
-ka=ia;
-la=H;}
-ma=la+ha;
-na=rp(b);
+Aa=ya;
+Ba=X;}
+Ca=Ba+xa;
+Da=rp(b);
 z16(b+8);
-oa=na+(i64)la;
-if((u64)oa-(u64)ga<ha)copy_bits_4f4(ga,oa,ha);
-else memmove(oa,ga,ha);
-wp(b,na);
-w8(b+8,ma);
-w8(b+16,ka);
-pa=r+(i64)ba;
-if(Z>ka-ma){
-qa=grow_amortized_68b(b,Z);
-if(!qa){
-x=1;
-goto L1;}
-ra=rp(b);
-sa=r8(b+16);
-ta=r8(b+8);}
+Ea=Da+(i64)Ba;
+if((u64)Ea-(u64)wa<xa)copy_bits_4f4(wa,Ea,xa);
+else memmove(Ea,wa,xa);
+wp(b,Da);
+w8(b+8,Ca);
+w8(b+16,Aa);
+Fa=v+(i64)ra;
+if(pa>Aa-Ca){
+Ga=grow_amortized_68b(b,pa);
+if(!Ga)goto L4;
+Ha=rp(b);
+Ia=r8(b+16);
+Ja=r8(b+8);}
 else{
-ra=na;
-sa=ka;
-ta=ma;}
-ua=ta+Z;
+Ha=Da;
+Ia=Aa;
+Ja=Ca;}
+Ka=Ja+pa;
 z16(b+8);
-va=ra+(i64)ta;
-if((u64)va-(u64)pa<Z)copy_bits_4f4(pa,va,Z);
-else memmove(va,pa,Z);
-wp(b,ra);
-w8(b+8,ua);
-w8(b+16,sa);
-da=ua;
-ea=ca;
-fa=ca;
-goto L5;}}
-da=H;
-ea=V;
-fa=I;
-L5:if(s-ea<=4){
-wa=da;
-xa=fa;
+La=Ha+(i64)Ja;
+if((u64)La-(u64)Fa<pa)copy_bits_4f4(Fa,La,pa);
+else memmove(La,Fa,pa);
+wp(b,Ha);
+w8(b+8,Ka);
+w8(b+16,Ia);
+ta=Ka;
+ua=sa;
+va=sa;
+goto L8;}}
+ta=X;
+ua=la;
+va=Y;
+L8:if(u-ua<=4){
+Ma=ta;
+Na=va;
+goto L9;}
+X=ta;
+Y=va;
+Z=ua;
+goto L5;}}}}}}
+L7:Oa=fa+1;
+if(u-Oa>4){
+aa=Oa;
 goto L6;}
-H=da;
-I=fa;
-J=ea;
-goto L2;}}}}}}
-L4:ya=P+1;
-if(s-ya>4){
-K=ya;
-goto L3;}
-wa=H;
-xa=I;}
+Ma=X;
+Na=Y;
+L9:Pa=v+(i64)Na;
+Qa=u-Na;
+Ra=r8(b+16);
+if(Qa>Ra-Ma){
+Sa=grow_amortized_68b(b,Qa);
+if(!Sa)goto L4;
+Ta=r8(b+16);
+Ua=r8(b+8);}
 else{
-wa=0;
-xa=0;}
-L6:za=r+(i64)xa;
-Aa=s-xa;
-Ba=r8(b+16);
-if(Aa>Ba-wa){
-Ca=grow_amortized_68b(b,Aa);
-if(!Ca){
-x=1;
-goto L1;}
-Da=r8(b+16);
-Ea=r8(b+8);}
-else{
-Da=Ba;
-Ea=wa;}
-Fa=Ea+Aa;
-Ga=rp(b);
+Ta=Ra;
+Ua=Ma;}
+Va=Ua+Qa;
+Wa=rp(b);
 z16(b+8);
-Ha=Ga+(i64)Ea;
-if((u64)Ha-(u64)za<Aa)copy_bits_4f4(za,Ha,Aa);
-else memmove(Ha,za,Aa);
-wp(b,Ga);
-w8(b+8,Fa);
-w8(b+16,Da);
-B=Fa;
-C=Ga;}
+Xa=Wa+(i64)Ua;
+if((u64)Xa-(u64)Pa<Qa)copy_bits_4f4(Pa,Xa,Qa);
+else memmove(Xa,Pa,Qa);
+wp(b,Wa);
+w8(b+8,Va);
+w8(b+16,Ta);
+V=Va;
+W=Wa;}
 z16(b+24);
 if(r8(b+48)!=0)w8(b+48,0);
 if(r8(b+72)!=0)w8(b+72,0);
 if(r8(b+96)!=0)w8(b+96,0);
-if(B==0){
-Ia=0;
-Ja=0;
-Ka=0;
-goto L7;}
-La=0;
-L8:Ma=r8(b+72);
-if(Ma==0){
-w8(o,0);
-Na=B-La;
-z24(n);
-if(Na>4){
-Oa=C+(i64)La;
-Pa=Na>66;
-Qa=Na>18;
-Ra=Na-19;
-Sa=Na-67;
-Ta=0;
-L9:if(Pa){
-Ua=umin64(Sa,Ta);
-Va=Oa+(i64)Ua;
-Wa=v64_and(v64_eq(v64_at(Va+2),v64_splat(100)),v64_eq(v64_at(Va+3),v64_splat(58)));
-Xa=(((((u64)v16_top(Wa.p[1])<<16)|v16_top(Wa.p[0]))|((u64)v16_top(Wa.p[2])<<32))|((u64)v16_top(Wa.p[3])<<48))>>(Ta-Ua);
-Ya=Xa==0?Ua+64:cttz(Xa,64)+Ta;}
+if(V==0){
+Ya=0;
+Za=0;
+ab=0;
+goto L10;}
+bb=0;
+L11:cb=r8(b+72);
+if(cb==0){
+w8(r,0);
+db=V-bb;
+z24(q);
+if(db>4){
+eb=W+(i64)bb;
+fb=db>66;
+gb=db>18;
+hb=db-19;
+ib=db-67;
+jb=0;
+L12:if(fb){
+kb=umin64(ib,jb);
+lb=eb+(i64)kb;
+mb=v64_and(v64_eq(v64_at(lb+2),v64_splat(100)),v64_eq(v64_at(lb+3),v64_splat(58)));
+nb=(((((u64)v16_top(mb.p[1])<<16)|v16_top(mb.p[0]))|((u64)v16_top(mb.p[2])<<32))|((u64)v16_top(mb.p[3])<<48))>>(jb-kb);
+ob=nb==0?kb+64:cttz(nb,64)+jb;}
 else{
-if(Qa){
-Za=umin64(Ra,Ta);
-ab=Oa+(i64)Za;
-bb=(u64)(v16_eq(v16_at(ab+2),splat(100))&v16_eq(v16_at(ab+3),splat(58)))>>(Ta-Za);
-Ya=bb==0?Za+16:cttz(bb,64)+Ta;}
-else Ya=Ta;}
-cb=Na-Ya;
-if(cb>=5){
-db=Oa+(i64)Ya;
-if(*db==115){
-if(db[1]==116){
-if(db[2]==100){
-if(db[3]==58){
-if(db[4]==58){
-if(Ya!=0){
-eb=db[-1];
-if(eb==58)goto L10;
-if(*((u8*)t_39e2+eb)==49)goto L10;}
-fb=0;
-L11:if(cb-fb>15){
-gb=v16_at(db+fb);
-hb=cttz(v16_sgt(gb,splat(255))&(v16_ne(gb,splat(36))&(v16_ne(gb,splat(46))&(v16_ne(gb,splat(95))&(v16_ult(v16_add(gb,splat(197)),splat(245))&v16_ult(v16_add(v16_or(gb,splat(32)),splat(133)),splat(230)))))),16);
-ib=fb+hb;
-if(hb>=16){
-fb=ib;
-goto L11;}
-jb=ib;}
-else jb=fb;
-if(jb>=cb){
-lb=jb;
-goto L12;}
-kb=jb;
-L13:mb=*(db+kb);
-if(mb!=58){
-if(*((u8*)t_39e2+mb)!=49){
-lb=kb;
-goto L12;}}
-nb=kb+1;
-if(nb!=cb){
-kb=nb;
-goto L13;}
-lb=cb;
-L12:change_at_a46(n,db,cb,db,lb);
-ob=*n;
-if(ob==0){
-pb=Ya+1;
-if(Na-pb<=4)goto L14;
-qb=pb;
+if(gb){
+pb=umin64(hb,jb);
+qb=eb+(i64)pb;
+rb=(u64)(v16_eq(v16_at(qb+2),splat(100))&v16_eq(v16_at(qb+3),splat(58)))>>(jb-pb);
+ob=rb==0?pb+16:cttz(rb,64)+jb;}
+else ob=jb;}
+sb=db-ob;
+if(sb>=5){
+tb=eb+(i64)ob;
+if(*tb==115){
+if(tb[1]==116){
+if(tb[2]==100){
+if(tb[3]==58){
+if(tb[4]==58){
+if(ob!=0){
+ub=tb[-1];
+if(ub==58)goto L13;
+if(*((u8*)t_39e2+ub)==49)goto L13;}
+vb=0;
+L14:if(sb-vb>15){
+wb=v16_at(tb+vb);
+xb=cttz(v16_sgt(wb,splat(255))&(v16_ne(wb,splat(36))&(v16_ne(wb,splat(46))&(v16_ne(wb,splat(95))&(v16_ult(v16_add(wb,splat(197)),splat(245))&v16_ult(v16_add(v16_or(wb,splat(32)),splat(133)),splat(230)))))),16);
+yb=vb+xb;
+if(xb>=16){
+vb=yb;
+goto L14;}
+zb=yb;}
+else zb=vb;
+if(zb>=sb){
+Bb=zb;
 goto L15;}
-rb=q4(n+2);
-sb=r8(n+8);
-tb=r8(n+16);
-w8(b+24,r8(b+24)+Ya);
-w2(o,ob);
-x4(o+2,rb);
-w8(o+8,sb);
-w8(o+16,tb);
-ub=change_d40(b+24,C,B,lb,o);
-vb=ub;
-goto L16;}}}}}}
-L10:wb=Ya+1;
-if(Na-wb<=4)goto L14;
-qb=wb;
-L15:Ta=qb;
-goto L9;}
-L14:w8(b+24,B);
-xb=B;
-goto L17;}
-yb=C+La;
-zb=*yb;
-if(zb!=58){
-if(*((u8*)t_39e2+zb)!=49){
-switch(zb){
-case 123:case 91:case 60:case 40:Ab=zb==60;
-Bb=La-r8(b+32)+r8(b+48);
-Cb=r8(b+96);
-if(r8(b+80)==Ma){
-Db=grow_amortized_f8b(b+64);
-if(!Db){
-x=1;
-goto L1;}
-Eb=r8(b+72);}
-else Eb=Ma;
-Fb=rp(b+64)+Eb*48;
-*Fb=Ab;
-z31(Fb+1);
-x8(Fb+32,Bb);
-x8(Fb+40,Cb);
-w8(b+72,Eb+1);
-Gb=Bb+1;
-Hb=r8(b+96);
-if(r8(b+104)==Hb){
-Ib=grow_amortized_483(b+88);
-if(!Ib){
-x=1;
-goto L1;}
-Jb=r8(b+96);}
-else Jb=Hb;
-w8(rp(b+88)+(Jb<<3),Gb);
-w8(b+96,Jb+1);
-Kb=r8(b+24)+1;
-w8(b+24,Kb);
-Lb=Kb;
-goto L18;
-case 62:Mb=Ma-1;
-w8(b+72,Mb);
-Nb=rp(b+64)+Mb*48;
-if(!(*Nb&1)){
-xe=0;
-goto L19;}
-Ob=q8(Nb+40);
-if(Nb[8]!=1){
-if(r8(b+96)>Ob)w8(b+96,Ob);
-we=La+1;
-w8(b+24,we);
-Lb=we;
-goto L18;}
-Pb=q2(Nb+16);
-Qb=q2(Nb+18);
-Rb=q8(Nb+24);
-Sb=q8(Nb+32);
-Tb=r8(b+32);
-Ub=C+(i64)Tb;
-Vb=La-Tb;
-Wb=r8(b+56);
-Xb=r8(b+48);
-if(Vb>Wb-Xb){
-Yb=grow_amortized_68b(b+40,Vb);
-if(!Yb){
-x=1;
-goto L1;}
-Zb=r8(b+56);
-ac=r8(b+48);}
-else{
-Zb=Wb;
-ac=Xb;}
-bc=ac+Vb;
-cc=rp(b+40);
-z16(b+48);
-dc=cc+(i64)ac;
-if((u64)dc-(u64)Ub<Vb)copy_bits_4f4(Ub,dc,Vb);
-else memmove(dc,Ub,Vb);
-wp(b+40,cc);
-w8(b+48,bc);
-w8(b+56,Zb);
-ec=r8(b+24);
-w8(b+32,ec);
-fc=(u8*)t_1d51+Rb*12;
-gc=ec+1;
-hc=C+(i64)gc;
-ic=B-gc;
-jc=rp(b+88)+(i64)(Ob<<3);
-kc=r8(b+96)-Ob;
-w2(i,Pb);
-w2(i+2,Qb);
-memcpy(i+4,fc,12);
-z12(j);
-z32(k);
-z48(l);
-lc=kc==0;
-if(lc){
-mc=(u8*)t_z0;
-nc=0;
-oc=0;
-pc=(u8*)t_z0;}
-else{
-qc=r8(jc);
-if(kc==1){
-mc=cc+(i64)qc;
-nc=bc-qc;
-oc=0;
-pc=(u8*)t_z0;}
-else{
-rc=r8(jc+8);
-sc=cc+(i64)qc;
-tc=rc-qc-2;
-if(kc>2)uc=r8(jc+16)-2;
-else uc=bc;
-mc=sc;
-nc=tc;
-oc=uc-rc;
-pc=cc+(i64)rc;}}
-vc=(Pb<=Qb)&(Qb<2413);
-wc=vc?(u64)Qb-Pb:0;
-xc=vc?(u8*)t_76ae_2+(i64)Pb:(u8*)t_z0;
-w2(f,Pb);
-w2(f+2,Qb);
-memcpy(f+4,fc,12);
-if(kc>f[8])yc=kc;
-else{
-wp(g,cc);
-w8(g+8,bc);
-wp(g+16,jc);
-w8(g+24,kc);
-wp(h,mc);
-w8(h+8,nc);
-wp(h+16,pc);
-w8(h+24,oc);
-wp(h+32,xc);
-w8(h+40,wc);
-zc=without_defaults_014(g,f,h,kc);
-yc=zc;}
-Ac=r2(i+4);
-Bc=r2(i+6);
-Cc=(((Ac<=Bc)&(Bc<2413))?(u64)Ac-Bc:0)+Sb;
-Dc=i[14];
-Ec=i[15];
-Fc=r8(jc);
-Gc=yc==0;
-if(Gc)Hc=Fc;
-else{
-if(yc<kc)Hc=r8(jc+(yc<<3))-2;
-else Hc=bc;}
-Ic=umin8(Ec,47);
-if(Dc<Ic){
-Jc=cc+(i64)Fc;
-Kc=Hc-Fc;
-Lc=wc==5;
-Mc=Lc?(u8*)t_fc66:(u8*)t_61bc;
-Nc=Lc?4:9;
-Oc=Dc;
-L20:Pc=(u8*)t_d411+Oc*12;
-Qc=r2(Pc+4);
-Rc=r2(Pc+6);
-Sc=(Qc>Rc)|(Rc>2412);
-Tc=(u64)Rc-Qc;
-Uc=Sc?(u8*)t_z0:(u8*)t_76ae_2+(i64)Qc;
-if((Rc==Qc)|Sc){
-Vc=Kc;
-goto L21;}
-Wc=0;
-Xc=Kc;
-Yc=Jc;
-L22:Zc=*(Uc+Wc);
-if(Zc<4){
-switch(Zc){
-case 0:ad=mc;
-bd=nc;
-break;
-case 1:ad=pc;
-bd=oc;
-break;
-case 2:ad=xc;
-bd=wc;
-break;
-case 3:ad=Mc;
-bd=Nc;
-break;
-default:goto L23;
-}
-if(Xc<bd)goto L24;
-cd=parts_equal_58b(Yc,bd,ad,bd);
-if(!cd)goto L24;
-dd=Xc-bd;
-ed=Yc+(i64)bd;}
-else{
-if(Xc==0)goto L24;
-if(*Yc!=Zc)goto L24;
-dd=Xc-1;
-ed=Yc+1;}
-fd=Wc+1;
-if(fd!=Tc){
-Wc=fd;
-Xc=dd;
-Yc=ed;
-goto L22;}
-Vc=dd;
-L21:if(Vc==0){
-gd=q4(Pc);
-hd=q4(Pc+8);
-w4(e,gd);
-w2(e+4,Qc);
-w2(e+6,Rc);
-w4(e+8,hd);
-id=is_read_back_c31(e,hc,ic);
-if(!id)goto L25;
-w4(j,gd);
-w2(j+4,Qc);
-w2(j+6,Rc);
-w4(j+8,hd);
-jd=hd;
-kd=hd>>16;
-ld=kd;
-if(bc>Cc){
-w8(b+48,Cc);
-md=Cc;}
-else md=bc;
-nd=hd&65535;
-od=(hd<158138368)&(jd<=ld);
-pd=od?(u64)kd-nd:0;
-qd=od?(u8*)t_76ae_2+(i64)nd:(u8*)t_z0;
-if(pd>Zb-md){
-sd=grow_amortized_68b(b+40,pd);
-if(!sd)goto L26;
-td=rp(b+40);
-ud=r8(b+56);
-vd=r8(b+48);}
-else{
-td=cc;
-ud=Zb;
-vd=md;}
-xd=vd+pd;
-z16(b+48);
-yd=td+(i64)vd;
-if((u64)yd-(u64)qd<pd)copy_bits_4f4(qd,yd,pd);
-else memcpy(yd,qd,pd);
-wp(b+40,td);
-w8(b+48,xd);
-w8(b+56,ud);
-zd=append_constructor_c34(j,hc,ic,b+40);
-if(zd.f0==0){
-Ad=zd.f1;
-goto L27;}
-x=1;
-goto L1;}
-L24:Bd=Oc+1;
-if(Bd!=Ic){
-Oc=Bd;
-goto L20;}}
-L25:if(kc==i[8]){
-Cd=r2(i+10);
-Dd=r2(i+12);
-if(lc){
-Ed=0;
-Fd=(u8*)t_z0;}
-else{
-Gd=r8(jc+(i64)(kc<<3)-8);
-Ed=bc-Gd;
-Fd=cc+(i64)Gd;}
-Hd=(Cd>Dd)|(Dd>2412);
-if(!((Dd==Cd)|Hd)){
-Id=(u64)Dd-Cd;
-Jd=Hd?(u8*)t_z0:(u8*)t_76ae_2+(i64)Cd;
-Kd=wc==5;
-Ld=Kd?(u8*)t_fc66:(u8*)t_61bc;
-Md=Kd?4:9;
-Nd=0;
-Od=Ed;
-Pd=Fd;
-L28:Qd=*(Jd+Nd);
-if(Qd<4){
-switch(Qd){
-case 0:Rd=mc;
-Sd=nc;
-break;
-case 1:Rd=pc;
-Sd=oc;
-break;
-case 2:Rd=xc;
-Sd=wc;
-break;
-case 3:Rd=Ld;
-Sd=Md;
-break;
-default:goto L23;
-}
-if(Od<Sd)goto L29;
-Td=parts_equal_58b(Pd,Sd,Rd,Sd);
-if(!Td)goto L29;
-Ud=Od-Sd;
-Vd=Pd+(i64)Sd;}
-else{
-if(Od==0)goto L29;
-if(*Pd!=Qd)goto L29;
-Ud=Od-1;
-Vd=Pd+1;}
-Wd=Nd+1;
-if(Wd!=Id){
-Nd=Wd;
-Od=Ud;
-Pd=Vd;
-goto L28;}
-if(Ud==0){
-wp(k,cc);
-w8(k+8,bc);
-wp(k+16,jc);
-w8(k+24,kc);
-wp(l,mc);
-w8(l+8,nc);
-wp(l+16,pc);
-w8(l+24,oc);
-wp(l+32,xc);
-w8(l+40,wc);
-Xd=without_defaults_014(k,i,l,kc-1);
-if(Xd==0)Yd=Fc;
-else{
-if(Xd>=kc){
-Zd=bc;
-goto L30;}
-Yd=r8(jc+(Xd<<3))-2;}
-if(bc>Yd){
-w8(b+48,Yd);
-Zd=Yd;}
-else Zd=bc;
-L30:if(Zb-Zd<5){
-ae=grow_amortized_68b(b+40,5);
-if(!ae)goto L26;
-be=rp(b+40);
-ce=r8(b+56);
-de=r8(b+48);}
-else{
-be=cc;
-ce=Zb;
-de=Zd;}
-ee=de+5;
-z16(b+48);
-fe=be+(i64)de;
-if((u64)fe-(u64)(u8*)t_8830<5)copy_bits_4f4((u8*)t_8830,fe,5);
-else memcpy(fe,(u8*)t_8830,5);
-wp(b+40,be);
-w8(b+48,ee);
-w8(b+56,ce);
-ge=be+(i64)Cc;
-he=ee-Cc;
-switch(he){
-case 5:break;
-case 6:ie=*ge;
-memmove(ge,ge+1,5);
-ge[5]=ie;
-break;
-default:je=he-5;
-ke=umin64(je,5);
-le=he-ke;
-turn_through_room_153(ge,he,je,le<4097?le:ke);
-break;}
-me=r8(b+48);
-if(r8(b+56)==me){
-ne=grow_amortized_68b(b+40,1);
-if(!ne)goto L26;
-oe=r8(b+48);}
-else oe=me;
-*(rp(b+40)+oe)=62;
-pe=oe;
-goto L31;}}}
-L29:if(Gc)qe=Fc;
-else{
-if(yc>=kc){
-re=bc;
-goto L32;}
-qe=r8(jc+(yc<<3))-2;}
-if(bc>qe){
-w8(b+48,qe);
-re=qe;}
-else re=bc;
-L32:if(Zb==re){
-se=grow_amortized_68b(b+40,1);
-if(!se)goto L26;
-te=rp(b+40);
-ue=r8(b+48);}
-else{
-te=cc;
-ue=re;}
-*(te+ue)=62;
-pe=ue;
-L31:w8(b+48,pe+1);
-Ad=0;
-goto L27;
-L23:NEVER;
-L26:x=1;
-goto L1;
-L27:ve=Ad+1+r8(b+24);
-w8(b+24,ve);
-w8(b+32,ve);
-if(r8(b+96)<=Ob){
-Lb=ve;
-goto L18;}
-w8(b+96,Ob);
-Lb=ve;
-goto L18;
-case 125:case 93:case 41:ye=Ma-1;
-w8(b+72,ye);
-ze=rp(b+64)+ye*48;
-if(*ze&1){
-xe=0;
-goto L19;}
-Ae=q8(ze+40);
-if(r8(b+96)>Ae)w8(b+96,Ae);
-Be=La+1;
-w8(b+24,Be);
-Lb=Be;
-goto L18;
-case 44:if(B-La>1&&*(rp(b+64)+(i64)(Ma*48)-48)&1){
-if(yb[1]==32){
-Ce=La+2+r8(b+48)-r8(b+32);
-De=r8(b+96);
-if(r8(b+104)==De){
-Ee=grow_amortized_483(b+88);
-if(!Ee){
-x=1;
-goto L1;}
-Fe=r8(b+96);}
-else Fe=De;
-w8(rp(b+88)+(Fe<<3),Ce);
-w8(b+96,Fe+1);
-Ge=r8(b+24)+2;
-goto L33;}}
-Ge=La+1;
-L33:w8(b+24,Ge);
-Lb=Ge;
-goto L18;
-case 45:if(B-La>=2){
-if(yb[1]==62){
-He=2;
-goto L34;}}
-He=1;
-L34:Ie=He+La;
-w8(b+24,Ie);
-Lb=Ie;
-goto L18;
-default:Je=La+1;
-w8(b+24,Je);
-Lb=Je;
-goto L18;
-}}}
-z24(m);
-Ke=B-La;
-Le=0;
-L35:if(Ke-Le>15){
-Me=v16_at(yb+Le);
-Ne=cttz(v16_sgt(Me,splat(255))&(v16_ne(Me,splat(36))&(v16_ne(Me,splat(46))&(v16_ne(Me,splat(95))&(v16_ult(v16_add(Me,splat(197)),splat(245))&v16_ult(v16_add(v16_or(Me,splat(32)),splat(133)),splat(230)))))),16);
-Oe=Le+Ne;
-if(Ne>=16){
-Le=Oe;
-goto L35;}
-Pe=Oe;}
-else Pe=Le;
-if(Pe>=Ke){
-Re=Pe;
-goto L36;}
-Qe=Pe;
-L37:Se=*(yb+Qe);
-if(Se!=58){
-if(*((u8*)t_39e2+Se)!=49){
-Re=Qe;
-goto L36;}}
-Te=Qe+1;
-if(Te!=Ke){
-Qe=Te;
-goto L37;}
-Re=Ke;
-L36:if(Re<5){
-Ue=0;
-goto L38;}
-Ve=0;
-We=0;
-L39:Xe=Ve||*((u8*)t_0f44+(i64)We)!=*(yb+(i64)We);
-Ye=We+1;
-if(Ye!=4){
-Ve=Xe;
-We=Ye;
-goto L39;}
-Ze=0;
-af=0;
-L40:bf=af+1;
-cf=Ze||*((u8*)t_0f44+(i64)bf)!=*(yb+(i64)bf);
-if(bf!=4){
-Ze=cf;
-af=bf;
-goto L40;}
-if(!(Xe|cf)){
-change_at_a46(m,yb,Ke,yb,Re);
-uf=change_d40(b+24,C,B,Re,m);
-vb=uf;
+Ab=zb;
+L16:Cb=*(tb+Ab);
+if(Cb!=58){
+if(*((u8*)t_39e2+Cb)!=49){
+Bb=Ab;
+goto L15;}}
+Db=Ab+1;
+if(Db!=sb){
+Ab=Db;
 goto L16;}
-if(Re<8)Ue=0;
+Bb=sb;
+L15:change_at_a46(q,tb,sb,tb,Bb);
+Eb=*q;
+if(Eb==0){
+Fb=ob+1;
+if(db-Fb<=4)goto L17;
+Gb=Fb;
+goto L18;}
+Hb=q4(q+2);
+Ib=r8(q+8);
+Jb=r8(q+16);
+w8(b+24,r8(b+24)+ob);
+w2(r,Eb);
+x4(r+2,Hb);
+w8(r+8,Ib);
+w8(r+16,Jb);
+Kb=change_d40(b+24,W,V,Bb,r);
+Lb=Kb;
+goto L19;}}}}}}
+L13:Mb=ob+1;
+if(db-Mb<=4)goto L17;
+Gb=Mb;
+L18:jb=Gb;
+goto L12;}
+L17:w8(b+24,V);
+Nb=V;
+goto L20;}
+Ob=W+bb;
+Pb=*Ob;
+if(Pb!=58){
+if(*((u8*)t_39e2+Pb)!=49){
+switch(Pb){
+case 123:case 91:case 60:case 40:Qb=Pb==60;
+Rb=bb-r8(b+32)+r8(b+48);
+Sb=r8(b+96);
+if(r8(b+80)==cb){
+Tb=grow_amortized_f8b(b+64);
+if(!Tb)goto L4;
+Ub=r8(b+72);}
+else Ub=cb;
+Vb=rp(b+64)+Ub*48;
+*Vb=Qb;
+z31(Vb+1);
+x8(Vb+32,Rb);
+x8(Vb+40,Sb);
+w8(b+72,Ub+1);
+Wb=Rb+1;
+Xb=r8(b+96);
+if(r8(b+104)==Xb){
+Yb=grow_amortized_483(b+88);
+if(!Yb)goto L4;
+Zb=r8(b+96);}
+else Zb=Xb;
+w8(rp(b+88)+(Zb<<3),Wb);
+w8(b+96,Zb+1);
+ac=r8(b+24)+1;
+w8(b+24,ac);
+bc=ac;
+goto L21;
+case 62:cc=cb-1;
+w8(b+72,cc);
+dc=rp(b+64)+cc*48;
+if(!(*dc&1)){
+Ne=0;
+goto L22;}
+ec=q8(dc+40);
+if(dc[8]!=1){
+if(r8(b+96)>ec)w8(b+96,ec);
+Me=bb+1;
+w8(b+24,Me);
+bc=Me;
+goto L21;}
+fc=q2(dc+16);
+gc=q2(dc+18);
+hc=q8(dc+24);
+ic=q8(dc+32);
+jc=r8(b+32);
+kc=W+(i64)jc;
+lc=bb-jc;
+mc=r8(b+56);
+nc=r8(b+48);
+if(lc>mc-nc){
+oc=grow_amortized_68b(b+40,lc);
+if(!oc)goto L4;
+pc=r8(b+56);
+qc=r8(b+48);}
 else{
-df=yb+(i64)Re;
-ef=Ke-Re;
-ff=0;
-gf=0;
-L41:hf=ff||*((u8*)t_06e5+(i64)gf)!=*(df-8+(i64)gf);
-jf=gf+1;
-if(jf!=4){
-ff=hf;
-gf=jf;
-goto L41;}
-kf=0;
-lf=0;
-L42:mf=lf+4;
-nf=kf||*((u8*)t_06e5+(i64)mf)!=*(df-8+(i64)mf);
-of=lf+1;
-if(of!=4){
-kf=nf;
-lf=of;
-goto L42;}
-if(hf|nf)Ue=0;
+pc=mc;
+qc=nc;}
+rc=qc+lc;
+sc=rp(b+40);
+z16(b+48);
+tc=sc+(i64)qc;
+if((u64)tc-(u64)kc<lc)copy_bits_4f4(kc,tc,lc);
+else memmove(tc,kc,lc);
+wp(b+40,sc);
+w8(b+48,rc);
+w8(b+56,pc);
+uc=r8(b+24);
+w8(b+32,uc);
+vc=(u8*)t_1d51+hc*12;
+wc=uc+1;
+xc=W+(i64)wc;
+yc=V-wc;
+zc=rp(b+88)+(i64)(ec<<3);
+Ac=r8(b+96)-ec;
+w2(l,fc);
+w2(l+2,gc);
+memcpy(l+4,vc,12);
+z12(m);
+z32(n);
+z48(o);
+Bc=Ac==0;
+if(Bc){
+Cc=(u8*)t_z0;
+Dc=0;
+Ec=0;
+Fc=(u8*)t_z0;}
 else{
-if(Re!=8){
-if(*((u8*)t_39e2+df[-9])==49){
-Ue=0;
-goto L38;}}
-if(ef<3){
-switch(ef){
-case 2:pf=df[1];
-qf=*df;
+Gc=r8(zc);
+if(Ac==1){
+Cc=sc+(i64)Gc;
+Dc=rc-Gc;
+Ec=0;
+Fc=(u8*)t_z0;}
+else{
+Hc=r8(zc+8);
+Ic=sc+(i64)Gc;
+Jc=Hc-Gc-2;
+if(Ac>2)Kc=r8(zc+16)-2;
+else Kc=rc;
+Cc=Ic;
+Dc=Jc;
+Ec=Kc-Hc;
+Fc=sc+(i64)Hc;}}
+Lc=(fc<=gc)&(gc<2413);
+Mc=Lc?(u64)gc-fc:0;
+Nc=Lc?(u8*)t_76ae_2+(i64)fc:(u8*)t_z0;
+w2(i,fc);
+w2(i+2,gc);
+memcpy(i+4,vc,12);
+if(Ac>i[8])Oc=Ac;
+else{
+wp(j,sc);
+w8(j+8,rc);
+wp(j+16,zc);
+w8(j+24,Ac);
+wp(k,Cc);
+w8(k+8,Dc);
+wp(k+16,Fc);
+w8(k+24,Ec);
+wp(k+32,Nc);
+w8(k+40,Mc);
+Pc=without_defaults_014(j,i,k,Ac);
+Oc=Pc;}
+Qc=r2(l+4);
+Rc=r2(l+6);
+Sc=(((Qc<=Rc)&(Rc<2413))?(u64)Qc-Rc:0)+ic;
+Tc=l[14];
+Uc=l[15];
+Vc=r8(zc);
+Wc=Oc==0;
+if(Wc)Xc=Vc;
+else{
+if(Oc<Ac)Xc=r8(zc+(Oc<<3))-2;
+else Xc=rc;}
+Yc=umin8(Uc,47);
+if(Tc<Yc){
+Zc=sc+(i64)Vc;
+ad=Xc-Vc;
+bd=Mc==5;
+cd=bd?(u8*)t_fc66:(u8*)t_61bc;
+dd=bd?4:9;
+ed=Tc;
+L23:fd=(u8*)t_d411+ed*12;
+gd=r2(fd+4);
+hd=r2(fd+6);
+id=(gd>hd)|(hd>2412);
+jd=(u64)hd-gd;
+kd=id?(u8*)t_z0:(u8*)t_76ae_2+(i64)gd;
+if((hd==gd)|id){
+ld=ad;
+goto L24;}
+md=0;
+nd=ad;
+od=Zc;
+L25:pd=*(kd+md);
+if(pd<4){
+switch(pd){
+case 0:qd=Cc;
+sd=Dc;
 break;
-case 0:Ue=ef;
-goto L38;
-default:rf=*df;
-goto L43;
+case 1:qd=Fc;
+sd=Ec;
+break;
+case 2:qd=Nc;
+sd=Mc;
+break;
+case 3:qd=cd;
+sd=dd;
+break;
+default:goto L26;
+}
+if(nd<sd)goto L27;
+td=parts_equal_58b(od,sd,qd,sd);
+if(!td)goto L27;
+ud=nd-sd;
+vd=od+(i64)sd;}
+else{
+if(nd==0)goto L27;
+if(*od!=pd)goto L27;
+ud=nd-1;
+vd=od+1;}
+xd=md+1;
+if(xd!=jd){
+md=xd;
+nd=ud;
+od=vd;
+goto L25;}
+ld=ud;
+L24:if(ld==0){
+yd=q4(fd);
+zd=q4(fd+8);
+w4(h,yd);
+w2(h+4,gd);
+w2(h+6,hd);
+w4(h+8,zd);
+Ad=is_read_back_c31(h,xc,yc);
+if(!Ad)goto L28;
+w4(m,yd);
+w2(m+4,gd);
+w2(m+6,hd);
+w4(m+8,zd);
+Bd=zd;
+Cd=zd>>16;
+Dd=Cd;
+if(rc>Sc){
+w8(b+48,Sc);
+Ed=Sc;}
+else Ed=rc;
+Fd=zd&65535;
+Gd=(zd<158138368)&(Bd<=Dd);
+Hd=Gd?(u64)Cd-Fd:0;
+Id=Gd?(u8*)t_76ae_2+(i64)Fd:(u8*)t_z0;
+if(Hd>pc-Ed){
+Jd=grow_amortized_68b(b+40,Hd);
+if(!Jd)goto L29;
+Kd=rp(b+40);
+Ld=r8(b+56);
+Md=r8(b+48);}
+else{
+Kd=sc;
+Ld=pc;
+Md=Ed;}
+Nd=Md+Hd;
+z16(b+48);
+Od=Kd+(i64)Md;
+if((u64)Od-(u64)Id<Hd)copy_bits_4f4(Id,Od,Hd);
+else memcpy(Od,Id,Hd);
+wp(b+40,Kd);
+w8(b+48,Nd);
+w8(b+56,Ld);
+Pd=append_constructor_c34(m,xc,yc,b+40);
+if(Pd.f0!=0)goto L4;
+Qd=Pd.f1;
+goto L30;}
+L27:Rd=ed+1;
+if(Rd!=Yc){
+ed=Rd;
+goto L23;}}
+L28:if(Ac==l[8]){
+Sd=r2(l+10);
+Td=r2(l+12);
+if(Bc){
+Ud=0;
+Vd=(u8*)t_z0;}
+else{
+Wd=r8(zc+(i64)(Ac<<3)-8);
+Ud=rc-Wd;
+Vd=sc+(i64)Wd;}
+Xd=(Sd>Td)|(Td>2412);
+if(!((Td==Sd)|Xd)){
+Yd=(u64)Td-Sd;
+Zd=Xd?(u8*)t_z0:(u8*)t_76ae_2+(i64)Sd;
+ae=Mc==5;
+be=ae?(u8*)t_fc66:(u8*)t_61bc;
+ce=ae?4:9;
+de=0;
+ee=Ud;
+fe=Vd;
+L31:ge=*(Zd+de);
+if(ge<4){
+switch(ge){
+case 0:he=Cc;
+ie=Dc;
+break;
+case 1:he=Fc;
+ie=Ec;
+break;
+case 2:he=Nc;
+ie=Mc;
+break;
+case 3:he=be;
+ie=ce;
+break;
+default:goto L26;
+}
+if(ee<ie)goto L32;
+je=parts_equal_58b(fe,ie,he,ie);
+if(!je)goto L32;
+ke=ee-ie;
+le=fe+(i64)ie;}
+else{
+if(ee==0)goto L32;
+if(*fe!=ge)goto L32;
+ke=ee-1;
+le=fe+1;}
+me=de+1;
+if(me!=Yd){
+de=me;
+ee=ke;
+fe=le;
+goto L31;}
+if(ke==0){
+wp(n,sc);
+w8(n+8,rc);
+wp(n+16,zc);
+w8(n+24,Ac);
+wp(o,Cc);
+w8(o+8,Dc);
+wp(o+16,Fc);
+w8(o+24,Ec);
+wp(o+32,Nc);
+w8(o+40,Mc);
+ne=without_defaults_014(n,l,o,Ac-1);
+if(ne==0)oe=Vc;
+else{
+if(ne>=Ac){
+pe=rc;
+goto L33;}
+oe=r8(zc+(ne<<3))-2;}
+if(rc>oe){
+w8(b+48,oe);
+pe=oe;}
+else pe=rc;
+L33:if(pc-pe<5){
+qe=grow_amortized_68b(b+40,5);
+if(!qe)goto L29;
+re=rp(b+40);
+se=r8(b+56);
+te=r8(b+48);}
+else{
+re=sc;
+se=pc;
+te=pe;}
+ue=te+5;
+z16(b+48);
+ve=re+(i64)te;
+if((u64)ve-(u64)(u8*)t_8830<5)copy_bits_4f4((u8*)t_8830,ve,5);
+else memcpy(ve,(u8*)t_8830,5);
+wp(b+40,re);
+w8(b+48,ue);
+w8(b+56,se);
+we=re+(i64)Sc;
+xe=ue-Sc;
+switch(xe){
+case 5:break;
+case 6:ye=*we;
+memmove(we,we+1,5);
+we[5]=ye;
+break;
+default:ze=xe-5;
+Ae=umin64(ze,5);
+Be=xe-Ae;
+turn_through_room_153(we,xe,ze,Be<4097?Be:Ae);
+break;}
+Ce=r8(b+48);
+if(r8(b+56)==Ce){
+De=grow_amortized_68b(b+40,1);
+if(!De)goto L29;
+Ee=r8(b+48);}
+else Ee=Ce;
+*(rp(b+40)+Ee)=62;
+Fe=Ee;
+goto L34;}}}
+L32:if(Wc)Ge=Vc;
+else{
+if(Oc>=Ac){
+He=rc;
+goto L35;}
+Ge=r8(zc+(Oc<<3))-2;}
+if(rc>Ge){
+w8(b+48,Ge);
+He=Ge;}
+else He=rc;
+L35:if(pc==He){
+Ie=grow_amortized_68b(b+40,1);
+if(!Ie)goto L29;
+Je=rp(b+40);
+Ke=r8(b+48);}
+else{
+Je=sc;
+Ke=He;}
+*(Je+Ke)=62;
+Fe=Ke;
+L34:w8(b+48,Fe+1);
+Qd=0;
+goto L30;
+L26:NEVER;
+L29:goto L4;
+L30:Le=Qd+1+r8(b+24);
+w8(b+24,Le);
+w8(b+32,Le);
+if(r8(b+96)<=ec){
+bc=Le;
+goto L21;}
+w8(b+96,ec);
+bc=Le;
+goto L21;
+case 125:case 93:case 41:Oe=cb-1;
+w8(b+72,Oe);
+Pe=rp(b+64)+Oe*48;
+if(*Pe&1){
+Ne=0;
+goto L22;}
+Qe=q8(Pe+40);
+if(r8(b+96)>Qe)w8(b+96,Qe);
+Re=bb+1;
+w8(b+24,Re);
+bc=Re;
+goto L21;
+case 44:if(V-bb>1&&*(rp(b+64)+(i64)(cb*48)-48)&1){
+if(Ob[1]==32){
+Se=bb+2+r8(b+48)-r8(b+32);
+Te=r8(b+96);
+if(r8(b+104)==Te){
+Ue=grow_amortized_483(b+88);
+if(!Ue)goto L4;
+Ve=r8(b+96);}
+else Ve=Te;
+w8(rp(b+88)+(Ve<<3),Se);
+w8(b+96,Ve+1);
+We=r8(b+24)+2;
+goto L36;}}
+We=bb+1;
+L36:w8(b+24,We);
+bc=We;
+goto L21;
+case 45:if(V-bb>=2){
+if(Ob[1]==62){
+Xe=2;
+goto L37;}}
+Xe=1;
+L37:Ye=Xe+bb;
+w8(b+24,Ye);
+bc=Ye;
+goto L21;
+default:Ze=bb+1;
+w8(b+24,Ze);
+bc=Ze;
+goto L21;
+}}}
+z24(p);
+af=V-bb;
+bf=0;
+L38:if(af-bf>15){
+cf=v16_at(Ob+bf);
+df=cttz(v16_sgt(cf,splat(255))&(v16_ne(cf,splat(36))&(v16_ne(cf,splat(46))&(v16_ne(cf,splat(95))&(v16_ult(v16_add(cf,splat(197)),splat(245))&v16_ult(v16_add(v16_or(cf,splat(32)),splat(133)),splat(230)))))),16);
+ef=bf+df;
+if(df>=16){
+bf=ef;
+goto L38;}
+ff=ef;}
+else ff=bf;
+if(ff>=af){
+hf=ff;
+goto L39;}
+gf=ff;
+L40:jf=*(Ob+gf);
+if(jf!=58){
+if(*((u8*)t_39e2+jf)!=49){
+hf=gf;
+goto L39;}}
+kf=gf+1;
+if(kf!=af){
+gf=kf;
+goto L40;}
+hf=af;
+L39:if(hf<5){
+lf=0;
+goto L41;}
+mf=0;
+nf=0;
+L42:of=mf||*((u8*)t_0f44+(i64)nf)!=*(Ob+(i64)nf);
+pf=nf+1;
+if(pf!=4){
+mf=of;
+nf=pf;
+goto L42;}
+qf=0;
+rf=0;
+L43:sf=rf+1;
+tf=qf||*((u8*)t_0f44+(i64)sf)!=*(Ob+(i64)sf);
+if(sf!=4){
+qf=tf;
+rf=sf;
+goto L43;}
+if(!(of|tf)){
+change_at_a46(p,Ob,af,Ob,hf);
+Kf=change_d40(b+24,W,V,hf,p);
+Lb=Kf;
+goto L19;}
+if(hf<8)lf=0;
+else{
+uf=Ob+(i64)hf;
+vf=af-hf;
+wf=0;
+xf=0;
+L44:yf=wf||*((u8*)t_06e5+(i64)xf)!=*(uf-8+(i64)xf);
+zf=xf+1;
+if(zf!=4){
+wf=yf;
+xf=zf;
+goto L44;}
+Af=0;
+Bf=0;
+L45:Cf=Bf+4;
+Df=Af||*((u8*)t_06e5+(i64)Cf)!=*(uf-8+(i64)Cf);
+Ef=Bf+1;
+if(Ef!=4){
+Af=Df;
+Bf=Ef;
+goto L45;}
+if(yf|Df)lf=0;
+else{
+if(hf!=8){
+if(*((u8*)t_39e2+uf[-9])==49){
+lf=0;
+goto L41;}}
+if(vf<3){
+switch(vf){
+case 2:Ff=uf[1];
+Gf=*uf;
+break;
+case 0:lf=vf;
+goto L41;
+default:Hf=*uf;
+goto L46;
 }}
 else{
-sf=*df;
-tf=df[1];
-if((sf==60)&(tf==61)&&df[2]==62){
-Ue=3;
-goto L38;}
-pf=tf;
-qf=sf;}
-if((pf==60)&(qf==60)){
-Ue=2;
-goto L38;}
-if((pf==62)&((qf==62)|(qf==45))){
-Ue=2;
-goto L38;}
-rf=qf;
-L43:Ue=(rf&253)==60;}}
-L38:vf=Re+La+Ue;
-w8(b+24,vf);
-Lb=vf;
-goto L18;
-L16:if(vb!=0){
-x=1;
-goto L1;}
-Lb=r8(b+24);
-L18:if(Lb<B){
-La=Lb;
-goto L8;}
-xb=Lb;
-L17:Ia=r8(b+48);
-Ja=r8(b+32);
-Ka=xb;
-L7:wf=C+(i64)Ja;
-xf=Ka-Ja;
-yf=r8(b+56);
-if(xf>yf-Ia){
-zf=grow_amortized_68b(b+40,xf);
-if(!zf){
-x=1;
-goto L1;}
-Af=r8(b+56);
-Bf=r8(b+48);}
+If=*uf;
+Jf=uf[1];
+if((If==60)&(Jf==61)&&uf[2]==62){
+lf=3;
+goto L41;}
+Ff=Jf;
+Gf=If;}
+if((Ff==60)&(Gf==60)){
+lf=2;
+goto L41;}
+if((Ff==62)&((Gf==62)|(Gf==45))){
+lf=2;
+goto L41;}
+Hf=Gf;
+L46:lf=(Hf&253)==60;}}
+L41:Lf=hf+bb+lf;
+w8(b+24,Lf);
+bc=Lf;
+goto L21;
+L19:if(Lb!=0)goto L4;
+bc=r8(b+24);
+L21:if(bc<V){
+bb=bc;
+goto L11;}
+Nb=bc;
+L20:Ya=r8(b+48);
+Za=r8(b+32);
+ab=Nb;
+L10:Mf=W+(i64)Za;
+Nf=ab-Za;
+Of=r8(b+56);
+if(Nf>Of-Ya){
+Pf=grow_amortized_68b(b+40,Nf);
+if(!Pf)goto L4;
+Qf=r8(b+56);
+Rf=r8(b+48);}
 else{
-Af=yf;
-Bf=Ia;}
-Cf=Bf+xf;
-Df=rp(b+40);
+Qf=Of;
+Rf=Ya;}
+Sf=Rf+Nf;
+Tf=rp(b+40);
 z16(b+48);
-Ef=Df+(i64)Bf;
-if((u64)Ef-(u64)wf<xf)copy_bits_4f4(wf,Ef,xf);
-else memmove(Ef,wf,xf);
-wp(b+40,Df);
-w8(b+48,Cf);
-w8(b+56,Af);
+Uf=Tf+(i64)Rf;
+if((u64)Uf-(u64)Mf<Nf)copy_bits_4f4(Mf,Uf,Nf);
+else memmove(Uf,Mf,Nf);
+wp(b+40,Tf);
+w8(b+48,Sf);
+w8(b+56,Qf);
 w8(b+32,r8(b+24));
-xe=r8(b+72)==0;
-L19:Ff=r8(d+8);
-if(Ff>c){
-w8(d+8,c);
-Gf=c;}
-else Gf=Ff;
-Hf=r8(d+16);
-If=Hf-Gf;
-if(xe){
-Jf=rp(b+40);
-Kf=r8(b+48);
-if(Kf>If){
-Lf=grow_amortized_68b(d,Kf);
-if(!Lf){
-x=1;
+Ne=r8(b+72)==0;
+L22:Vf=r8(g+8);
+if(Vf>f){
+w8(g+8,f);
+Wf=f;}
+else Wf=Vf;
+Xf=r8(g+16);
+Yf=Xf-Wf;
+if(Ne){
+Zf=rp(b+40);
+ag=r8(b+48);
+if(ag>Yf){
+bg=grow_amortized_68b(g,ag);
+if(!bg)goto L4;
+cg=r8(g+16);
+dg=r8(g+8);}
+else{
+cg=Xf;
+dg=Wf;}
+eg=dg+ag;
+fg=rp(g);
+z16(g+8);
+gg=fg+(i64)dg;
+if((u64)gg-(u64)Zf<ag)copy_bits_4f4(Zf,gg,ag);
+else memmove(gg,Zf,ag);
+wp(g,fg);
+w8(g+8,eg);
+w8(g+16,cg);
+M=0;
+goto L3;}
+hg=rp(b);
+ig=r8(b+8);
+if(ig>Yf){
+jg=grow_amortized_68b(g,ig);
+if(!jg)goto L4;
+kg=r8(g+16);
+lg=r8(g+8);}
+else{
+kg=Xf;
+lg=Wf;}
+mg=lg+ig;
+ng=rp(g);
+z16(g+8);
+og=ng+(i64)lg;
+if((u64)og-(u64)hg<ig)copy_bits_4f4(hg,og,ig);
+else memmove(og,hg,ig);
+wp(g,ng);
+w8(g+8,mg);
+w8(g+16,kg);
+M=0;
+goto L3;
+L4:if(r8(g+8)<=f){
+M=1;
+goto L3;}
+w8(g+8,f);
+M=1;
+goto L3;}}}}}}
+L2:pg=F+1;
+if(u-pg>4){
+A=pg;
 goto L1;}
-Mf=r8(d+16);
-Nf=r8(d+8);}
-else{
-Mf=Hf;
-Nf=Gf;}
-Of=Nf+Kf;
-Pf=rp(d);
-z16(d+8);
-Qf=Pf+(i64)Nf;
-if((u64)Qf-(u64)Jf<Kf)copy_bits_4f4(Jf,Qf,Kf);
-else memmove(Qf,Jf,Kf);
-wp(d,Pf);
-w8(d+8,Of);
-w8(d+16,Mf);
-x=0;}
-else{
-Rf=rp(b);
-Sf=r8(b+8);
-if(Sf>If){
-Tf=grow_amortized_68b(d,Sf);
-if(!Tf){
-x=1;
-goto L1;}
-Uf=r8(d+16);
-Vf=r8(d+8);}
-else{
-Uf=Hf;
-Vf=Gf;}
-Wf=Vf+Sf;
-Xf=rp(d);
-z16(d+8);
-Yf=Xf+(i64)Vf;
-if((u64)Yf-(u64)Rf<Sf)copy_bits_4f4(Rf,Yf,Sf);
-else memmove(Yf,Rf,Sf);
-wp(d,Xf);
-w8(d+8,Wf);
-w8(d+16,Uf);
-x=0;}
-L1:return x;
+M=0;}
+else M=0;
+L3:return M;
 }
 
 /* short_names::inlines::Inlines::read */
@@ -139247,107 +139355,6 @@ H=J;
 goto L10;}
 L9:if((u64)a-F<d)copy_bits_4f4(e,a,d);
 else memcpy(a,e,d);}
-return;
-}
-
-/* sym_short::rewriting::RewritingDemangler::append */
-static void append_3f1(u8* a,u8* b,u8* c,u8 d,u8* e,u64 f,u8* g)
-{
-A16 u8 h[12];
-u64 i,l,m,n,o,q,r,s,u,v,w,x,y,A,B,C,D;
-u8 j,k,p,t,z,E,G;
-u32 F,H;
-i=r8(g+8);
-z12(h);
-if(f>=21){
-if(e[2]==78){
-j=e[3];
-if((u8)(j-49)>=9){
-n=3;
-o=3;
-p=j;
-goto L1;}
-k=j;
-l=3;
-m=3;
-L2:q=m+9;
-r=m;
-s=0;
-L3:t=*(e+r)-48;
-if(t<10){
-u=s*10+t;
-v=r+1;
-if(v-m<9){
-r=v;
-s=u;
-goto L3;}
-if(q<f){
-if((u8)(*(e+q)-48)<10){
-n=m;
-o=l;
-p=k;
-goto L1;}
-w=u;
-x=q;}
-else{
-w=u;
-x=q;}}
-else{
-w=s;
-x=r;}
-y=x+w;
-if(y+17>=f){
-if(y>=f)goto L4;
-if(*(e+y)!=69)goto L4;
-A=y+1;
-if(f==A){
-if(m==3)goto L4;
-B=m;
-C=f;
-goto L5;}
-if(m==3||(f-A<2||*(e+(i64)A)!=46))goto L4;
-B=m;
-C=A;
-goto L5;}
-z=*(e+y);
-if((u8)(z-49)<9){
-k=z;
-l=m;
-m=y;
-goto L2;}
-n=y;
-o=m;
-p=z;
-L1:if(!((n<f)&(p==69)))goto L4;
-D=n+1;
-if(f==D){
-if(o==3)goto L4;
-B=o;
-C=f;}
-else{
-if(o==3||(f-D<2||*(e+(i64)D)!=46))goto L4;
-B=o;
-C=D;}
-L5:append_named_70e(h,b,c,d,e,f,B,C,g);
-goto L6;}}
-L4:append_e62(h,b,c,d,e,f,g);
-L6:if(*h==0){
-E=rewrite_43c(b,c+1544,d,e,f,i,g);
-if(E&1){
-*a=1;
-x4(a+4,4);
-F=0;}
-else{
-*a=0;
-x4(a+4,0);
-F=0;}}
-else{
-G=h[4];
-H=r4(h+8);
-*a=1;
-x4(a+4,G);
-F=H;}
-x4(a+8,F);
 return;
 }
 
@@ -144563,107 +144570,6 @@ L3:append_6a1(j,b,c,d,e,f,i);
 L6:*a=*j;
 x4(a+4,j[4]);
 x4(a+8,r4(j+8));
-return;
-}
-
-/* sym_short::rewriting::RewritingDemangler::append */
-static void append_55b(u8* a,u8* b,u8* c,u8 d,u8* e,u64 f,u8* g)
-{
-A16 u8 h[12];
-u64 i,l,m,n,o,q,r,s,u,v,w,x,y,A,B,C,D;
-u8 j,k,p,t,z,E,G;
-u32 F,H;
-i=r8(g+8);
-z12(h);
-if(f>=21){
-if(e[2]==78){
-j=e[3];
-if((u8)(j-49)>=9){
-n=3;
-o=3;
-p=j;
-goto L1;}
-k=j;
-l=3;
-m=3;
-L2:q=m+9;
-r=m;
-s=0;
-L3:t=*(e+r)-48;
-if(t<10){
-u=s*10+t;
-v=r+1;
-if(v-m<9){
-r=v;
-s=u;
-goto L3;}
-if(q<f){
-if((u8)(*(e+q)-48)<10){
-n=m;
-o=l;
-p=k;
-goto L1;}
-w=u;
-x=q;}
-else{
-w=u;
-x=q;}}
-else{
-w=s;
-x=r;}
-y=x+w;
-if(y+17>=f){
-if(y>=f)goto L4;
-if(*(e+y)!=69)goto L4;
-A=y+1;
-if(f==A){
-if(m==3)goto L4;
-B=m;
-C=f;
-goto L5;}
-if(m==3||(f-A<2||*(e+(i64)A)!=46))goto L4;
-B=m;
-C=A;
-goto L5;}
-z=*(e+y);
-if((u8)(z-49)<9){
-k=z;
-l=m;
-m=y;
-goto L2;}
-n=y;
-o=m;
-p=z;
-L1:if(!((n<f)&(p==69)))goto L4;
-D=n+1;
-if(f==D){
-if(o==3)goto L4;
-B=o;
-C=f;}
-else{
-if(o==3||(f-D<2||*(e+(i64)D)!=46))goto L4;
-B=o;
-C=D;}
-L5:append_named_795(h,b,c,d,e,f,B,C,g);
-goto L6;}}
-L4:append_6a1(h,b,c,d,e,f,g);
-L6:if(*h==0){
-E=rewrite_43c(b,c+1544,d,e,f,i,g);
-if(E&1){
-*a=1;
-x4(a+4,4);
-F=0;}
-else{
-*a=0;
-x4(a+4,0);
-F=0;}}
-else{
-G=h[4];
-H=r4(h+8);
-*a=1;
-x4(a+4,G);
-F=H;}
-x4(a+8,F);
 return;
 }
 
@@ -159295,20 +159201,105 @@ L2:return;
 /* sym_recent::recent::RecentDemangler::append */
 static void append_4ee(u8* a,u8* b,u8* c,u8 d,u32 e,u8* f,u64 g,u8* h)
 {
-A16 u8 i[12];
-u32 j,l;
-u8 k;
-z12(i);
-j=r4(c+1744);
-if((j<64)|((j&7)==0))append_looked_adf(i,b,c,d,e,f,g,h);
+A16 u8 i[12],j[12];
+u32 k,I;
+u64 l,o,p,q,r,t,u,v,x,y,z,A,B,D,E,F,G;
+u8 m,n,s,w,C,H,J,K;
+z12(j);
+k=r4(c+1744);
+if((k<64)|((k&7)==0)){
+append_looked_adf(j,b,c,d,e,f,g,h);
+*a=*j;
+x4(a+4,j[4]);
+x4(a+8,r4(j+8));}
 else{
-w4(c+1744,j+1);
-append_3f1(i,b,c,d,f,g,h);}
-k=i[4];
-l=r4(i+8);
-*a=*i;
-x4(a+4,k);
-x4(a+8,l);
+w4(c+1744,k+1);
+l=r8(h+8);
+z12(i);
+if(g>=21){
+if(f[2]==78){
+m=f[3];
+if((u8)(m-49)>=9){
+q=3;
+r=3;
+s=m;
+goto L1;}
+n=m;
+o=3;
+p=3;
+L2:t=p+9;
+u=p;
+v=0;
+L3:w=*(f+u)-48;
+if(w<10){
+x=v*10+w;
+y=u+1;
+if(y-p<9){
+u=y;
+v=x;
+goto L3;}
+if(t<g){
+if((u8)(*(f+t)-48)<10){
+q=p;
+r=o;
+s=n;
+goto L1;}
+z=x;
+A=t;}
+else{
+z=x;
+A=t;}}
+else{
+z=v;
+A=u;}
+B=A+z;
+if(B+17>=g){
+if(B>=g)goto L4;
+if(*(f+B)!=69)goto L4;
+D=B+1;
+if(g==D){
+if(p==3)goto L4;
+E=p;
+F=g;
+goto L5;}
+if(p==3||(g-D<2||*(f+(i64)D)!=46))goto L4;
+E=p;
+F=D;
+goto L5;}
+C=*(f+B);
+if((u8)(C-49)<9){
+n=C;
+o=p;
+p=B;
+goto L2;}
+q=B;
+r=p;
+s=C;
+L1:if(!((q<g)&(s==69)))goto L4;
+G=q+1;
+if(g==G){
+if(r==3)goto L4;
+E=r;
+F=g;}
+else{
+if(r==3||(g-G<2||*(f+(i64)G)!=46))goto L4;
+E=r;
+F=G;}
+L5:append_named_70e(i,b,c,d,f,g,E,F,h);
+goto L6;}}
+L4:append_e62(i,b,c,d,f,g,h);
+L6:if(*i==0){
+H=rewrite_or_remove_1ed(b+8,c+1544,d,f,g,l,h);
+I=0;
+J=H<<2;
+K=H;}
+else{
+I=r4(i+8);
+J=i[4];
+K=1;}
+*a=K;
+x4(a+4,J);
+x4(a+8,I);}
 return;
 }
 
@@ -159317,12 +159308,11 @@ static void append_looked_adf(u8* a,u8* b,u8* c,u8 d,u32 e,u8* f,u64 g,u8* h)
 {
 A16 u8 i[16],j[16],k[12],l[12];
 s_8_32 m;
-u32 n,o,t,u,z,H,I,S;
-u64 p,v,w,B,C,E,F,J,M,O;
-u8 *q,*s,*x,*A,*K,*L,*N,*P;
-u16 r,Q;
-u8 y,D,G,R;
-z12(l);
+u32 n,o,t,u,z,H,I,oa,pa,Pa;
+u64 p,v,w,B,C,E,F,J,M,P,Q,R,S,U,V,W,Y,Z,aa,ba,ca,ea,fa,ga,ha,ka,qa,ta,ua,va,wa,ya,za,Aa,Ca,Da,Ea,Fa,Ga,Ia,Ja,Ka,La;
+u8 *q,*s,*x,*A,*K,*L,*ja,*la;
+u16 r,ma;
+u8 y,D,G,N,O,T,X,da,ia,na,ra,sa,xa,Ba,Ha,Ma,Na,Oa;
 if(b[8]==c[1664]){
 if(b[9]==c[1665]){
 if(r4(b)==r4(c+1656)){
@@ -159330,7 +159320,6 @@ if(b[4]==c[1660]){
 m=mark_of_209(f,g);
 if(m.f0==1){
 n=m.f1;
-z12(k);
 wp(i,f);
 w8(i+8,g);
 o=n&16383;
@@ -159385,25 +159374,103 @@ H=0;
 I=0;
 goto L2;}}}}}}}
 L1:M=r8(h+8);
-append_3f1(k,c+1656,c,d,f,g,h);
-if(*k==0){
-if(r8(c+1680)>o){
-N=rp(h)+(i64)M;
-O=r8(h+8)-M;
-P=rp(c+1672)+(i64)p;
-Q=n>>16;
-R=r2(P)==Q;
-w2(P,Q);
-if(R)w4(c+1744,0);
+z12(k);
+if(g>=21){
+if(f[2]==78){
+N=f[3];
+if((u8)(N-49)>=9){
+R=3;
+S=3;
+T=N;
+goto L3;}
+O=N;
+P=3;
+Q=3;
+L4:U=Q+9;
+V=Q;
+W=0;
+L5:X=*(f+V)-48;
+if(X<10){
+Y=W*10+X;
+Z=V+1;
+if(Z-Q<9){
+V=Z;
+W=Y;
+goto L5;}
+if(U<g){
+if((u8)(*(f+U)-48)<10){
+R=Q;
+S=P;
+T=O;
+goto L3;}
+aa=Y;
+ba=U;}
 else{
-S=r4(c+1744);
-w4(c+1744,S+1);
-if(S>=64){
+aa=Y;
+ba=U;}}
+else{
+aa=W;
+ba=V;}
+ca=ba+aa;
+if(ca+17>=g){
+if(ca>=g)goto L6;
+if(*(f+ca)!=69)goto L6;
+ea=ca+1;
+if(g==ea){
+if(Q==3)goto L6;
+fa=Q;
+ga=g;
+goto L7;}
+if(Q==3||(g-ea<2||*(f+(i64)ea)!=46))goto L6;
+fa=Q;
+ga=ea;
+goto L7;}
+da=*(f+ca);
+if((u8)(da-49)<9){
+O=da;
+P=Q;
+Q=ca;
+goto L4;}
+R=ca;
+S=Q;
+T=da;
+L3:if(!((R<g)&(T==69)))goto L6;
+ha=R+1;
+if(g==ha){
+if(S==3)goto L6;
+fa=S;
+ga=g;}
+else{
+if(S==3||(g-ha<2||*(f+(i64)ha)!=46))goto L6;
+fa=S;
+ga=ha;}
+L7:append_named_70e(k,c+1656,c,d,f,g,fa,ga,h);
+goto L8;}}
+L6:append_e62(k,c+1656,c,d,f,g,h);
+L8:if(*k==0){
+ia=rewrite_or_remove_1ed(c+1664,c+1544,d,f,g,M,h);
+if(ia&1){
+G=1;
+H=4;
+I=0;}
+else{
+if(r8(c+1680)>o){
+ja=rp(h)+(i64)M;
+ka=r8(h+8)-M;
+la=rp(c+1672)+(i64)p;
+ma=n>>16;
+na=r2(la)==ma;
+w2(la,ma);
+if(na)w4(c+1744,0);
+else{
+oa=r4(c+1744);
+w4(c+1744,oa+1);
+if(oa>=64){
 G=0;
 H=0;
 I=0;
 goto L2;}}
-keep_946(c+1672,o,d,e,f,g,N,O);
+keep_946(c+1672,o,d,e,f,g,ja,ka);
 G=0;
 H=0;
 I=0;}
@@ -159411,20 +159478,103 @@ else{
 begin_639(c+1672);
 G=0;
 H=0;
-I=0;}}
+I=0;}}}
 else{
 G=1;
 H=k[4];
 I=r4(k+8);}
 L2:*a=G;
 x4(a+4,H);
-x4(a+8,I);
-goto L3;}}}}}
-append_3f1(l,b,c,d,f,g,h);
-*a=*l;
-x4(a+4,l[4]);
-x4(a+8,r4(l+8));
-L3:return;
+pa=I;
+goto L9;}}}}}
+qa=r8(h+8);
+z12(l);
+if(g>=21){
+if(f[2]==78){
+ra=f[3];
+if((u8)(ra-49)>=9){
+va=3;
+wa=3;
+xa=ra;
+goto L10;}
+sa=ra;
+ta=3;
+ua=3;
+L11:ya=ua+9;
+za=ua;
+Aa=0;
+L12:Ba=*(f+za)-48;
+if(Ba<10){
+Ca=Aa*10+Ba;
+Da=za+1;
+if(Da-ua<9){
+za=Da;
+Aa=Ca;
+goto L12;}
+if(ya<g){
+if((u8)(*(f+ya)-48)<10){
+va=ua;
+wa=ta;
+xa=sa;
+goto L10;}
+Ea=Ca;
+Fa=ya;}
+else{
+Ea=Ca;
+Fa=ya;}}
+else{
+Ea=Aa;
+Fa=za;}
+Ga=Fa+Ea;
+if(Ga+17>=g){
+if(Ga>=g)goto L13;
+if(*(f+Ga)!=69)goto L13;
+Ia=Ga+1;
+if(g==Ia){
+if(ua==3)goto L13;
+Ja=ua;
+Ka=g;
+goto L14;}
+if(ua==3||(g-Ia<2||*(f+(i64)Ia)!=46))goto L13;
+Ja=ua;
+Ka=Ia;
+goto L14;}
+Ha=*(f+Ga);
+if((u8)(Ha-49)<9){
+sa=Ha;
+ta=ua;
+ua=Ga;
+goto L11;}
+va=Ga;
+wa=ua;
+xa=Ha;
+L10:if(!((va<g)&(xa==69)))goto L13;
+La=va+1;
+if(g==La){
+if(wa==3)goto L13;
+Ja=wa;
+Ka=g;}
+else{
+if(wa==3||(g-La<2||*(f+(i64)La)!=46))goto L13;
+Ja=wa;
+Ka=La;}
+L14:append_named_70e(l,b,c,d,f,g,Ja,Ka,h);
+goto L15;}}
+L13:append_e62(l,b,c,d,f,g,h);
+L15:if(*l==0){
+Ma=rewrite_or_remove_1ed(b+8,c+1544,d,f,g,qa,h);
+Na=Ma;
+Oa=Ma<<2;
+Pa=0;}
+else{
+Na=1;
+Oa=l[4];
+Pa=r4(l+8);}
+*a=Na;
+x4(a+4,Oa);
+pa=Pa;
+L9:x4(a+8,pa);
+return;
 }
 
 /* sym_filter::tries::append_parts */
@@ -160952,7 +161102,7 @@ z12(i);
 l=r8(h+8);
 append_e62(i,b,c,d,f,g,h);
 if(*i==0){
-m=rewrite_43c(b,c+1544,d,f,g,l,h);
+m=rewrite_or_remove_1ed(b+8,c+1544,d,f,g,l,h);
 n=0;
 o=m<<2;
 p=m;}
@@ -160969,7 +161119,7 @@ return;
 /* sym_recent::recent::append_looked */
 static void append_looked_34c(u8* a,u8* b,u8* c,u8 d,u32 e,u8* f,u64 g,u8* h)
 {
-A16 u8 i[12],j[12],k[16],l[16];
+A16 u8 i[16],j[16],k[12],l[12];
 s_8_32 m;
 u32 n,o,t,u,z,H,I,O,P,V,W,ba;
 u64 p,v,w,B,C,E,F,J,M,R,X;
@@ -160983,8 +161133,8 @@ if(b[4]==c[1660]){
 m=mark_of_209(f,g);
 if(m.f0==1){
 n=m.f1;
-wp(k,f);
-w8(k+8,g);
+wp(i,f);
+w8(i+8,g);
 o=n&16383;
 p=(u64)o<<2;
 if(r8(c+1680)>o){
@@ -161001,9 +161151,9 @@ v=(u64)u+t;
 w=r8(c+1728);
 if(w>=v){
 x=rp(c+1720);
-wp(l,x+(i64)t);
-w8(l+8,u);
-y=ne_2ae(l,k);
+wp(j,x+(i64)t);
+w8(j+8,u);
+y=ne_2ae(j,i);
 if(!y){
 z=r4(s+16);
 if(w<v+z)goto L1;
@@ -161037,10 +161187,10 @@ H=0;
 I=0;
 goto L2;}}}}}}}
 L1:M=r8(h+8);
-z12(j);
-append_e62(j,c+1656,c,d,f,g,h);
-if(*j==0){
-N=rewrite_43c(c+1656,c+1544,d,f,g,M,h);
+z12(k);
+append_e62(k,c+1656,c,d,f,g,h);
+if(*k==0){
+N=rewrite_or_remove_1ed(c+1664,c+1544,d,f,g,M,h);
 if(!(N&1)){
 if(r8(c+1680)<=o){
 begin_639(c+1672);
@@ -161071,8 +161221,8 @@ goto L2;}
 O=4;
 P=0;}
 else{
-O=j[4];
-P=r4(j+8);}
+O=k[4];
+P=r4(k+8);}
 G=1;
 H=O;
 I=P;
@@ -161080,18 +161230,18 @@ L2:*a=G;
 x4(a+4,H);
 W=I;
 goto L3;}}}}}
-z12(i);
+z12(l);
 X=r8(h+8);
-append_e62(i,b,c,d,f,g,h);
-if(*i==0){
-Y=rewrite_43c(b,c+1544,d,f,g,X,h);
+append_e62(l,b,c,d,f,g,h);
+if(*l==0){
+Y=rewrite_or_remove_1ed(b+8,c+1544,d,f,g,X,h);
 Z=Y;
 aa=Y<<2;
 ba=0;}
 else{
 Z=1;
-aa=i[4];
-ba=r4(i+8);}
+aa=l[4];
+ba=r4(l+8);}
 *a=Z;
 x4(a+4,aa);
 W=ba;
@@ -165738,20 +165888,105 @@ L2:return;
 /* sym_recent::recent::RecentDemangler::append */
 static void append_931(u8* a,u8* b,u8* c,u8 d,u32 e,u8* f,u64 g,u8* h)
 {
-A16 u8 i[12];
-u32 j,l;
-u8 k;
-z12(i);
-j=r4(c+1744);
-if((j<64)|((j&7)==0))append_looked_3d1(i,b,c,d,e,f,g,h);
+A16 u8 i[12],j[12];
+u32 k,I;
+u64 l,o,p,q,r,t,u,v,x,y,z,A,B,D,E,F,G;
+u8 m,n,s,w,C,H,J,K;
+z12(j);
+k=r4(c+1744);
+if((k<64)|((k&7)==0)){
+append_looked_3d1(j,b,c,d,e,f,g,h);
+*a=*j;
+x4(a+4,j[4]);
+x4(a+8,r4(j+8));}
 else{
-w4(c+1744,j+1);
-append_55b(i,b,c,d,f,g,h);}
-k=i[4];
-l=r4(i+8);
-*a=*i;
-x4(a+4,k);
-x4(a+8,l);
+w4(c+1744,k+1);
+l=r8(h+8);
+z12(i);
+if(g>=21){
+if(f[2]==78){
+m=f[3];
+if((u8)(m-49)>=9){
+q=3;
+r=3;
+s=m;
+goto L1;}
+n=m;
+o=3;
+p=3;
+L2:t=p+9;
+u=p;
+v=0;
+L3:w=*(f+u)-48;
+if(w<10){
+x=v*10+w;
+y=u+1;
+if(y-p<9){
+u=y;
+v=x;
+goto L3;}
+if(t<g){
+if((u8)(*(f+t)-48)<10){
+q=p;
+r=o;
+s=n;
+goto L1;}
+z=x;
+A=t;}
+else{
+z=x;
+A=t;}}
+else{
+z=v;
+A=u;}
+B=A+z;
+if(B+17>=g){
+if(B>=g)goto L4;
+if(*(f+B)!=69)goto L4;
+D=B+1;
+if(g==D){
+if(p==3)goto L4;
+E=p;
+F=g;
+goto L5;}
+if(p==3||(g-D<2||*(f+(i64)D)!=46))goto L4;
+E=p;
+F=D;
+goto L5;}
+C=*(f+B);
+if((u8)(C-49)<9){
+n=C;
+o=p;
+p=B;
+goto L2;}
+q=B;
+r=p;
+s=C;
+L1:if(!((q<g)&(s==69)))goto L4;
+G=q+1;
+if(g==G){
+if(r==3)goto L4;
+E=r;
+F=g;}
+else{
+if(r==3||(g-G<2||*(f+(i64)G)!=46))goto L4;
+E=r;
+F=G;}
+L5:append_named_795(i,b,c,d,f,g,E,F,h);
+goto L6;}}
+L4:append_6a1(i,b,c,d,f,g,h);
+L6:if(*i==0){
+H=rewrite_or_remove_1ed(b+8,c+1544,d,f,g,l,h);
+I=0;
+J=H<<2;
+K=H;}
+else{
+I=r4(i+8);
+J=i[4];
+K=1;}
+*a=K;
+x4(a+4,J);
+x4(a+8,I);}
 return;
 }
 
@@ -165760,12 +165995,11 @@ static void append_looked_3d1(u8* a,u8* b,u8* c,u8 d,u32 e,u8* f,u64 g,u8* h)
 {
 A16 u8 i[16],j[16],k[12],l[12];
 s_8_32 m;
-u32 n,o,t,u,z,H,I,S;
-u64 p,v,w,B,C,E,F,J,M,O;
-u8 *q,*s,*x,*A,*K,*L,*N,*P;
-u16 r,Q;
-u8 y,D,G,R;
-z12(l);
+u32 n,o,t,u,z,H,I,oa,pa,Pa;
+u64 p,v,w,B,C,E,F,J,M,P,Q,R,S,U,V,W,Y,Z,aa,ba,ca,ea,fa,ga,ha,ka,qa,ta,ua,va,wa,ya,za,Aa,Ca,Da,Ea,Fa,Ga,Ia,Ja,Ka,La;
+u8 *q,*s,*x,*A,*K,*L,*ja,*la;
+u16 r,ma;
+u8 y,D,G,N,O,T,X,da,ia,na,ra,sa,xa,Ba,Ha,Ma,Na,Oa;
 if(b[8]==c[1664]){
 if(b[9]==c[1665]){
 if(r4(b)==r4(c+1656)){
@@ -165773,7 +166007,6 @@ if(b[4]==c[1660]){
 m=mark_of_209(f,g);
 if(m.f0==1){
 n=m.f1;
-z12(k);
 wp(i,f);
 w8(i+8,g);
 o=n&16383;
@@ -165828,25 +166061,103 @@ H=0;
 I=0;
 goto L2;}}}}}}}
 L1:M=r8(h+8);
-append_55b(k,c+1656,c,d,f,g,h);
-if(*k==0){
-if(r8(c+1680)>o){
-N=rp(h)+(i64)M;
-O=r8(h+8)-M;
-P=rp(c+1672)+(i64)p;
-Q=n>>16;
-R=r2(P)==Q;
-w2(P,Q);
-if(R)w4(c+1744,0);
+z12(k);
+if(g>=21){
+if(f[2]==78){
+N=f[3];
+if((u8)(N-49)>=9){
+R=3;
+S=3;
+T=N;
+goto L3;}
+O=N;
+P=3;
+Q=3;
+L4:U=Q+9;
+V=Q;
+W=0;
+L5:X=*(f+V)-48;
+if(X<10){
+Y=W*10+X;
+Z=V+1;
+if(Z-Q<9){
+V=Z;
+W=Y;
+goto L5;}
+if(U<g){
+if((u8)(*(f+U)-48)<10){
+R=Q;
+S=P;
+T=O;
+goto L3;}
+aa=Y;
+ba=U;}
 else{
-S=r4(c+1744);
-w4(c+1744,S+1);
-if(S>=64){
+aa=Y;
+ba=U;}}
+else{
+aa=W;
+ba=V;}
+ca=ba+aa;
+if(ca+17>=g){
+if(ca>=g)goto L6;
+if(*(f+ca)!=69)goto L6;
+ea=ca+1;
+if(g==ea){
+if(Q==3)goto L6;
+fa=Q;
+ga=g;
+goto L7;}
+if(Q==3||(g-ea<2||*(f+(i64)ea)!=46))goto L6;
+fa=Q;
+ga=ea;
+goto L7;}
+da=*(f+ca);
+if((u8)(da-49)<9){
+O=da;
+P=Q;
+Q=ca;
+goto L4;}
+R=ca;
+S=Q;
+T=da;
+L3:if(!((R<g)&(T==69)))goto L6;
+ha=R+1;
+if(g==ha){
+if(S==3)goto L6;
+fa=S;
+ga=g;}
+else{
+if(S==3||(g-ha<2||*(f+(i64)ha)!=46))goto L6;
+fa=S;
+ga=ha;}
+L7:append_named_795(k,c+1656,c,d,f,g,fa,ga,h);
+goto L8;}}
+L6:append_6a1(k,c+1656,c,d,f,g,h);
+L8:if(*k==0){
+ia=rewrite_or_remove_1ed(c+1664,c+1544,d,f,g,M,h);
+if(ia&1){
+G=1;
+H=4;
+I=0;}
+else{
+if(r8(c+1680)>o){
+ja=rp(h)+(i64)M;
+ka=r8(h+8)-M;
+la=rp(c+1672)+(i64)p;
+ma=n>>16;
+na=r2(la)==ma;
+w2(la,ma);
+if(na)w4(c+1744,0);
+else{
+oa=r4(c+1744);
+w4(c+1744,oa+1);
+if(oa>=64){
 G=0;
 H=0;
 I=0;
 goto L2;}}
-keep_946(c+1672,o,d,e,f,g,N,O);
+keep_946(c+1672,o,d,e,f,g,ja,ka);
 G=0;
 H=0;
 I=0;}
@@ -165854,20 +166165,103 @@ else{
 begin_639(c+1672);
 G=0;
 H=0;
-I=0;}}
+I=0;}}}
 else{
 G=1;
 H=k[4];
 I=r4(k+8);}
 L2:*a=G;
 x4(a+4,H);
-x4(a+8,I);
-goto L3;}}}}}
-append_55b(l,b,c,d,f,g,h);
-*a=*l;
-x4(a+4,l[4]);
-x4(a+8,r4(l+8));
-L3:return;
+pa=I;
+goto L9;}}}}}
+qa=r8(h+8);
+z12(l);
+if(g>=21){
+if(f[2]==78){
+ra=f[3];
+if((u8)(ra-49)>=9){
+va=3;
+wa=3;
+xa=ra;
+goto L10;}
+sa=ra;
+ta=3;
+ua=3;
+L11:ya=ua+9;
+za=ua;
+Aa=0;
+L12:Ba=*(f+za)-48;
+if(Ba<10){
+Ca=Aa*10+Ba;
+Da=za+1;
+if(Da-ua<9){
+za=Da;
+Aa=Ca;
+goto L12;}
+if(ya<g){
+if((u8)(*(f+ya)-48)<10){
+va=ua;
+wa=ta;
+xa=sa;
+goto L10;}
+Ea=Ca;
+Fa=ya;}
+else{
+Ea=Ca;
+Fa=ya;}}
+else{
+Ea=Aa;
+Fa=za;}
+Ga=Fa+Ea;
+if(Ga+17>=g){
+if(Ga>=g)goto L13;
+if(*(f+Ga)!=69)goto L13;
+Ia=Ga+1;
+if(g==Ia){
+if(ua==3)goto L13;
+Ja=ua;
+Ka=g;
+goto L14;}
+if(ua==3||(g-Ia<2||*(f+(i64)Ia)!=46))goto L13;
+Ja=ua;
+Ka=Ia;
+goto L14;}
+Ha=*(f+Ga);
+if((u8)(Ha-49)<9){
+sa=Ha;
+ta=ua;
+ua=Ga;
+goto L11;}
+va=Ga;
+wa=ua;
+xa=Ha;
+L10:if(!((va<g)&(xa==69)))goto L13;
+La=va+1;
+if(g==La){
+if(wa==3)goto L13;
+Ja=wa;
+Ka=g;}
+else{
+if(wa==3||(g-La<2||*(f+(i64)La)!=46))goto L13;
+Ja=wa;
+Ka=La;}
+L14:append_named_795(l,b,c,d,f,g,Ja,Ka,h);
+goto L15;}}
+L13:append_6a1(l,b,c,d,f,g,h);
+L15:if(*l==0){
+Ma=rewrite_or_remove_1ed(b+8,c+1544,d,f,g,qa,h);
+Na=Ma;
+Oa=Ma<<2;
+Pa=0;}
+else{
+Na=1;
+Oa=l[4];
+Pa=r4(l+8);}
+*a=Na;
+x4(a+4,Oa);
+pa=Pa;
+L9:x4(a+8,pa);
+return;
 }
 
 /* sym_filter::tries::append_parts */
@@ -167363,7 +167757,7 @@ z12(i);
 l=r8(h+8);
 append_6a1(i,b,c,d,f,g,h);
 if(*i==0){
-m=rewrite_43c(b,c+1544,d,f,g,l,h);
+m=rewrite_or_remove_1ed(b+8,c+1544,d,f,g,l,h);
 n=0;
 o=m<<2;
 p=m;}
@@ -167380,7 +167774,7 @@ return;
 /* sym_recent::recent::append_looked */
 static void append_looked_31c(u8* a,u8* b,u8* c,u8 d,u32 e,u8* f,u64 g,u8* h)
 {
-A16 u8 i[12],j[12],k[16],l[16];
+A16 u8 i[16],j[16],k[12],l[12];
 s_8_32 m;
 u32 n,o,t,u,z,H,I,O,P,V,W,ba;
 u64 p,v,w,B,C,E,F,J,M,R,X;
@@ -167394,8 +167788,8 @@ if(b[4]==c[1660]){
 m=mark_of_209(f,g);
 if(m.f0==1){
 n=m.f1;
-wp(k,f);
-w8(k+8,g);
+wp(i,f);
+w8(i+8,g);
 o=n&16383;
 p=(u64)o<<2;
 if(r8(c+1680)>o){
@@ -167412,9 +167806,9 @@ v=(u64)u+t;
 w=r8(c+1728);
 if(w>=v){
 x=rp(c+1720);
-wp(l,x+(i64)t);
-w8(l+8,u);
-y=ne_2ae(l,k);
+wp(j,x+(i64)t);
+w8(j+8,u);
+y=ne_2ae(j,i);
 if(!y){
 z=r4(s+16);
 if(w<v+z)goto L1;
@@ -167448,10 +167842,10 @@ H=0;
 I=0;
 goto L2;}}}}}}}
 L1:M=r8(h+8);
-z12(j);
-append_6a1(j,c+1656,c,d,f,g,h);
-if(*j==0){
-N=rewrite_43c(c+1656,c+1544,d,f,g,M,h);
+z12(k);
+append_6a1(k,c+1656,c,d,f,g,h);
+if(*k==0){
+N=rewrite_or_remove_1ed(c+1664,c+1544,d,f,g,M,h);
 if(!(N&1)){
 if(r8(c+1680)<=o){
 begin_639(c+1672);
@@ -167482,8 +167876,8 @@ goto L2;}
 O=4;
 P=0;}
 else{
-O=j[4];
-P=r4(j+8);}
+O=k[4];
+P=r4(k+8);}
 G=1;
 H=O;
 I=P;
@@ -167491,18 +167885,18 @@ L2:*a=G;
 x4(a+4,H);
 W=I;
 goto L3;}}}}}
-z12(i);
+z12(l);
 X=r8(h+8);
-append_6a1(i,b,c,d,f,g,h);
-if(*i==0){
-Y=rewrite_43c(b,c+1544,d,f,g,X,h);
+append_6a1(l,b,c,d,f,g,h);
+if(*l==0){
+Y=rewrite_or_remove_1ed(b+8,c+1544,d,f,g,X,h);
 Z=Y;
 aa=Y<<2;
 ba=0;}
 else{
 Z=1;
-aa=i[4];
-ba=r4(i+8);}
+aa=l[4];
+ba=r4(l+8);}
 *a=Z;
 x4(a+4,aa);
 W=ba;

@@ -104,7 +104,8 @@ long_ones() { # packages, other machines and the page, which take minutes
     else
         try packages tests/packages.sh
     fi
-    # the module for WebAssembly, which the package for JavaScript and the page use; without it each of both makes the module itself, or says why it can't
+    # the module for WebAssembly, which the package for JavaScript and the page use; without it, each of the two makes the module itself, or
+    # says why it can't
     if { chosen packaged || chosen web; } && command -v wasm-opt >/dev/null && web/module/make.sh "$work/page" >"$work/log" 2>&1; then
         made=(-w "$work/page")
     fi

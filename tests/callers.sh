@@ -1,7 +1,7 @@
 #!/bin/bash
-# Installs the libraries into a folder of its own and runs callers of them: in C, C++, Rust, Python and Go; static, shared and over a
-# lent block; found by pkg-config and CMake; under sanitizers, and with each allocation refused. Then programs over callers/shims,
-# and every example of the headers and of docs/callers.
+# Installs the libraries into a folder of its own and runs callers of them: in C, C++, Rust, Python and Go; static, shared and over a lent
+# block; found by pkg-config and CMake; under sanitizers, and with each allocation refused. Then runs programs over callers/shims, and every
+# example of the headers and of docs/callers.
 #
 #   tests/callers.sh [FILE..]
 #

@@ -4,8 +4,7 @@
     tests/changes.py REFERENCE < SYMBOLS >> crates/check_rows/stdin
 
 REFERENCE is a Python module with demangle(symbol, limit, brief, lang), whose result has `answer` ("text", "Malformed",
-"BadReference" or "BadValue"), `text` and `at`. SYMBOLS has one symbol a line, and each symbol is well shaped.
-"""
+"BadReference" or "BadValue"), `text` and `at`. SYMBOLS has one symbol per line, and each symbol is well shaped."""
 
 import os
 import sys

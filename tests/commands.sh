@@ -1,7 +1,7 @@
 #!/bin/bash
 # Tests README's commands of "Get it", and the gate: tests/commands.sh [-n].
 #
-# README's commands are typed as they are there, in their order, in a clean clone of what is committed. Each command has to print what is
+# README's commands are typed as README has them, in their order, in a clean clone of what is committed. Each command has to print what is
 # wanted of it below. With -n no command is run: the script only checks that each command begins at the top of the repository, enters
 # folders that exist, and leaves its reader at the top. The commands take some ten minutes of processor time. The gate (.ci/run) is run over
 # stand-ins for what it calls: it has to fail where one of these fails, and where `rt ci` passes with an edit that tests nothing.

@@ -25,7 +25,7 @@ def run(command, data=b""):
 
 
 def compare_words(symfilt, reference, options, words):
-    """The number of differences. A batch that is answered otherwise is compared word by word."""
+    """The number of differences. A batch that is answered differently is compared word by word."""
     own = run(symfilt + options + words)
     other = run(reference + options + words)
     if own == other:

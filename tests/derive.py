@@ -38,9 +38,10 @@ TYPES = {"Type", "Plain", "Item", "ItemButRef", "Argument"}
 # the productions of names that are never candidates, and those whose first part is a type that becomes a candidate before the other parts
 NAMES_ALONE = {"SimpleId", "OperatorReference"}
 TYPED = {"IntegerLiteral", "UnresolvedInType"}
-# by production, the number of the part that is the argument itself, after what is declared of it
+# by production, the number of the part that is the argument itself: the argument's declarations come before it
 DECLARED = {"AnyArgument": 0, "AnyElement": 0, "ArgumentWithT": 0, "DeclaredArgument": 1}
-# by the class of a token, how it is matched in a word that `read` reads; a name is matched by its length, which has one digit there
+# by the class of a token, how the token is matched in a word that `read` reads; a name is matched by its length, which has one digit in
+# such words
 TOKENS = {grammar.NAME: re.compile(rb"[0-9]"), grammar.SEQ36: re.compile(rb"[0-9A-Z]*_"), grammar.DECIMAL: re.compile(rb"[0-9]*_"), grammar.DIGITS: re.compile(rb"[0-9]+")}
 # Encodings whose arguments name another encoding, which has types with parameters. A substitution may name such a type again where its
 # parameters denote the outer encoding's arguments. Each reference gets a new number.
@@ -88,7 +89,7 @@ class Table:
         return 1 + max((self.heights[part] for part in self.parts[production] if part in self.rules), default=0)
 
     def distances(self, target):
-        """The least number of rules from a kind to the target, for each kind that leads there."""
+        """The least number of rules from a kind to the target, for each kind that leads to the target."""
         if target not in self.kept_distances:
             reached = {target: 0}
             grown = True
@@ -128,7 +129,8 @@ class Derivation:
         return self.derived("Symbol", 0, targets)
 
     def types_of_types(self, size):
-        """An encoding with a type that has two other types. From it a list is made in which each type has the type before it twice."""
+        """An encoding with a type that has two other types. A list in which each type has the type before it twice is made from this
+        encoding."""
         self.left = size
         rule = self.rng.choice((("ArgumentList", "AnyArgument"), ("FunctionRest", "RestItem")))
         return self.derived("Symbol", 0, [("Encoding", "Encoding"), ("Items", "Items"), rule, rule])
@@ -246,7 +248,7 @@ def read(table, word):
 
 
 def repeated(rng, table, tree, times, kind=None):
-    """The tree, in which a node of the given kind, or of any kind, is nested that many more times within itself. More often than not each
+    """The tree, in which a node of the given kind, or of any kind, is nested `times` more times within itself. More often than not each
     turn has a rule that only the wide grammar has."""
     nodes = [(way, part) for way, _, part in parts_within(table, tree) if part is not None]
     own = [way for way, node in nodes if table.is_own(node)]
@@ -272,14 +274,15 @@ class Spelling:
         self.derivation, self.table, self.rng = derivation, derivation.table, derivation.rng
         self.wild = 0.01
         self.edges = self.rng.choice((0, 0, 0, 0.05))
-        # how often a type within another one is a substitution, how often that names the newest candidate, and whether a type anywhere may be one
+        # how often a type within another one is a substitution, how often such a substitution names the newest candidate, and whether a
+        # type anywhere may be a substitution
         self.again, self.newest, self.anywhere = again, newest, anywhere
         self.out = bytearray()
         self.nodes = collections.Counter()
         self.candidates = []
         self.encodings = 0
-        # where a name just ended in a list of arguments: for each argument whether it is a pack; otherwise None. Whether the name so far
-        # needs no candidate: it is one already, or is never one
+        # after a name that ended in a list of arguments, whether each argument is a pack; otherwise None. Then whether the name so far
+        # needn't become a candidate, since it is one already or never is one
         self.arguments, self.listed = None, True
         self.types_around = 0
         # how many of the first candidates all compilers count alike; None as long as they count all candidates alike
@@ -308,9 +311,9 @@ class Spelling:
         self.append(around)
 
     def can_be_named(self, named, around):
-        """Whether a candidate can be named. By the wide grammar a candidate with free parameters can also be named elsewhere than where it
-        was made: in the signature of a lambda, or where its parameters have arguments. A candidate with several parameters needs arguments
-        that are no packs."""
+        """Whether a candidate can be named. By the wide grammar, a candidate with free parameters can also be named where it wasn't made:
+        in the signature of a lambda, or where its parameters have arguments. A candidate with several parameters needs arguments that are
+        no packs."""
         if not named.parameters:
             return around.in_expansion or not named.is_packed
         if named.encoding == around.encoding and not around.in_lambda and not named.in_lambda:

@@ -45,7 +45,7 @@ if [ -x demangle ]; then
     edge 0 $'f()\n_Z1fY' '' 'demangle _Z1fv _Z1fY'
     edge 1 $'f()\n_Z1fY' '' 'demangle --strict _Z1fv _Z1fY'
     edge 3 $'f()\n_Z1fY' '' 'demangle --why _Z1fv _Z1fY 2>/dev/full'
-    # an input, whose lines are counted from 1 on, also over its reads and after an escape
+    # an input whose lines are counted from 1 on, also across reads and after an escape
     edge 0 $'f()\n\n_Z1fY _ZN1aE' $'demangle: line 3: _Z1fY: malformed at 4\ndemangle: line 3: _ZN1aE: malformed at 5\ndemangle: 2 of 3 symbols stay' "printf '%s\n' _Z1fv '' '_Z1fY _ZN1aE' | demangle --why"
     edge 0 '' $'demangle: line 20001: _Z1fY: malformed at 4\ndemangle: line 20002: _Z1fY: malformed at 4\ndemangle: 2 of 2 symbols stay' "{ yes '' | head -n 20000; printf '%s\n' _Z1fY '\n_Z1fY'; } | demangle --why >/dev/null"
     edge 3 '' '' 'echo _Z1fY | demangle --why 2>/dev/full'

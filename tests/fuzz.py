@@ -118,7 +118,8 @@ def changed(rng, seeds, size):
 
 
 def made(rng, seeds, derived, size):
-    """Words for one batch. With a grammar half of them are its symbols. The others are changed words of these and of the seeds."""
+    """Words for one batch. With a grammar, half of them are the grammar's symbols. The others are made by changing these symbols
+    and the seeds."""
     fresh = [derived.word() for _ in range(BATCH // 2)] if derived else []
     return fresh + [changed(rng, rng.choice((seeds, fresh or seeds)), size) for _ in range(BATCH - len(fresh))]
 
@@ -159,7 +160,7 @@ class Pair:
 
 
 def first_different(differs, words):
-    """A word that is answered differently by itself, one of some words that are answered differently together."""
+    """A word that is answered differently by itself, found among words that are answered differently together."""
     while len(words) > 1:
         half = len(words) // 2
         words = words[:half] if differs(words[:half]) else words[half:]

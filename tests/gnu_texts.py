@@ -5,9 +5,8 @@
 
 Without files the symbols are those of `crates/check_rows/stdin` and of the lists in `bench`. For each C++ symbol that DEMANGLE reads, the
 text has to be what this script makes of the text that DEMANGLE prints without the option. For all other symbols the line has to be the same
-with and without the option. Where a `c++filt` of binutils is installed, its text has to be the same for 98 of 100 symbols of
-`bench/fresh_cpp.txt` that both read. The status is 1 where a text is wrong or the share is smaller, 2 where the program can't be run.
-"""
+with and without the option. If the `c++filt` of binutils is installed, its text has to be the same for 98 of 100 symbols of
+`bench/fresh_cpp.txt` that both read. The status is 1 if a text is wrong or the share is smaller, 2 if the program can't be run."""
 
 import argparse
 import os

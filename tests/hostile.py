@@ -3,12 +3,13 @@
 
     tests/hostile.py DEMANGLE
 
-Each word has 100 to 400 bytes and denotes a text of more than a million bytes, or of some ten thousands. At the default limit a program that
+Each word has 100 to 400 bytes and denotes a text of more than a million bytes, or of tens of thousands. At the default limit a program that
 prints up to the limit before it refuses takes 26 to 74 times as long as at a limit of 5,000. The program may take eight times as long.
 
-Texts of packs under pointers cost less than the default limit, so they are written whole. A word of 400 types, each under 400 pointers
-or 200 pointers to constant types, takes some eight times as long as with the low limit, and may take 12 times as long. A program that takes
-each pointer by itself takes 44 times as long for the first, and one that takes three pointers to constant types at once 18 times for the second.
+Texts of packs under pointers cost less than the default limit, so they are written whole. A word of 400 types, each under 400 pointers or
+200 pointers to constant types, takes some eight times as long as with the low limit, and may take 12 times as long. A program that takes
+each pointer by itself takes 44 times as long for the plain pointers. One that takes three pointers to constant types at once takes 18 times
+as long for those.
 
 Then all these words are one input, for which the program may take at most 30 MB at any time. The limit is 50 MB for an input that also has
 words as long as the program reads.
@@ -85,7 +86,7 @@ def rust_word(first, wraps, levels):
 
 
 def families():
-    """The words by what doubles in them."""
+    """The words, named by what doubles in them."""
     return {
         "templates": cpp_word("1AIiiE", 1, lambda that: (f"S_I{that}{that}E", 1), 38),
         "functions": cpp_word("PFvvE", 1, lambda that: (f"PF{that}{that}E", 2), 16),

@@ -3,12 +3,12 @@
 
     tests/json_lines.py DEMANGLE [--seed N] [--count N]
 
-The names are of each sort; some of them can't be in a text of JSON as they are, and some have any bytes. They are given as arguments and in
+The names are of every mangling and of none; some need escapes or replacements in a string of JSON, and some have bytes changed at random.
+They are given as arguments and in
 a text. Each line has to be UTF-8 without control characters, and has to be one object for both readers; jq is left out where it isn't
 installed. What the object of a name says is compared with what the program says of the name without `--json`. Each part has to be a stretch
-of its text; the parts are in the order of their starts, and of two parts one is within the other, or they are apart. The status is 1 where
-something comes out wrong, 2 where the program can't be run.
-"""
+of its text; the parts are in the order of their starts, and any two are apart, or one is within the other. The status is 1 where something
+comes out wrong, 2 where the program can't be run."""
 
 import argparse
 import json
@@ -173,7 +173,7 @@ class Checks:
         self.require((self.objects(out), err, status) == (wanted, b"", 0), "%r: %r, %r, %d" % (text_[:80], out[:300], err[:80], status))
 
     def check_any(self, names):
-        """Names of any bytes: each has the text, or the reason, that the program says without objects."""
+        """Names of any bytes: each has the text, or the reason, that the program prints without `--json`."""
         out, err, status = self.with_names(["--json"], names)
         objects = self.objects(out)
         self.require((len(objects), err, status) == (len(names), b"", 0), "%d objects for %d names" % (len(objects), len(names)))
@@ -182,7 +182,7 @@ class Checks:
             said = found.get("text")
             self.check_details(found)
             if said is not None:
-                # without `--json` a name is a line of text, and a byte that no word has ends a symbol there
+                # without `--json` a name is a line of text, and a symbol in it ends at a byte that no word has
                 out, _, _ = self.with_names([], [name])
                 self.require(OTHER_BYTES.search(name) or shown(out) == said + "\n", "%r: %r, not %r" % (name, said, out))
             elif found.get("error") not in REASONS:
@@ -208,7 +208,8 @@ class Checks:
             before.append((start, end))
 
     def check_any_text(self, text_):
-        """A text of any bytes: each word that `--why` counts has an object, and the numbers of the lines are those of the words that are left."""
+        """A text of any bytes: there are as many objects as words that `--why` counts, and each line that `--why` names is the line of an object
+        with an error."""
         out, _, _ = self.run(["--json"], text_)
         objects = self.objects(out)
         for found in objects:

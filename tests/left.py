@@ -1,11 +1,11 @@
 #!/usr/bin/env python3
-"""Tells which names of tests/left_names.txt the program reads now, so that the list has only names that it leaves or answers otherwise.
+"""Prints which names of tests/left_names.txt the program reads now, so that the list keeps only names that the program leaves or answers
+differently.
 
     tests/left.py DEMANGLE
 
-The list has names that compilers write, each with a text that other tools or debug information have for it, by their forms. The status is 1
-where the program answers a name with that text: the name is then taken from the list.
-"""
+The list has names that compilers write, sorted by form, each with a text that other tools or debug information have for it. The status is 1
+where the program answers a name with that text: the name is then taken from the list."""
 
 import os
 import subprocess

@@ -3,13 +3,12 @@
 
     tests/legacy.py SYMFILT FILE..
 
-SYMFILT is the built program. Each FILE is a program or a library with symbols that `nm` lists, or a text with one a line
-(`.txt`). Their legacy names (`_ZN`, a path, `17h`, sixteen digits, `E`, maybe a suffix) are given to `symfilt --legacy`, to
-`c++filt`, and to the rustc-demangle that is among rustc's own libraries, by a small program that `rustc` compiles first.
-A program that isn't installed is left out. Both show a path as symfilt does, and c++filt adds the hash. Each shows a suffix in a way of its
-own, and c++filt keeps escapes of characters beyond ASCII; these differences are counted apart. The script prints each other difference. The
-status is 1 where there is one, 2 where there is nothing to compare.
-"""
+SYMFILT is the built program. Each FILE is a program or a library with symbols that `nm` lists, or a text with one a line (`.txt`). The
+legacy names among these symbols (`_ZN`, a path, `17h`, sixteen digits, `E`, maybe a suffix) are given to `symfilt --legacy`, to
+`c++filt`, and to the rustc-demangle that is among rustc's own libraries, through a small program that `rustc` compiles first. A program
+that isn't installed is left out. The other two show a path as symfilt does, and c++filt adds the hash. Each shows a suffix in a way of
+its own, and c++filt keeps escapes of characters beyond ASCII; these differences are counted apart. The script prints every other
+difference. The status is 1 if there is such a difference, 2 if there is nothing to compare."""
 
 import collections
 import os

@@ -105,7 +105,7 @@ try_python() {
     # wheels for other machines: a caller in C calls their library
     COMPILERS='aarch64-linux-gnu-gcc x86_64-w64-mingw32-gcc' CFLAGS=-O1 made python
     grep "isn't installed" "$work/out" || true
-    # (there is none if no compiler for another machine is installed)
+    # (no such wheel exists if no compiler for another machine is installed)
     local wheels=("$packages"/*.whl)
     [ -e "${wheels[0]}" ] || wheels=()
     for wheel in ${wheels[@]+"${wheels[@]}"}; do (cd "$packages" && mkdir "$wheel.d" && python3 -m zipfile -e "$wheel" "$wheel.d"); done

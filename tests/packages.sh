@@ -78,7 +78,7 @@ for lib in "$work/tar/lib" "$work/deb/usr/lib/x86_64-linux-gnu"; do
     cc -std=c99 -I callers/c callers/c/calls.c "$lib/libsymdemangle.a" -o "$work/calls"
     "$work/calls" >/dev/null
 done
-# CMake finds the library in the tarball, wherever that is unpacked, and pkg-config finds it in the package, as in a system's root.
+# CMake finds the library in the tarball, wherever the tarball is unpacked, and pkg-config finds it in the package, as in a system's root.
 if has cmake 'what CMake finds'; then
     cmake -S tests/callers -B "$work/cmake" -DCMAKE_PREFIX_PATH="$work/tar" -DCALLS="$PWD/callers/c/calls.c" >"$work/out" &&
         cmake --build "$work/cmake" >>"$work/out" || fail "cmake: $(cat "$work/out")"

@@ -5,11 +5,10 @@
 
 Each of NAMES is a file of names, one a line; without NAMES the names are those of bench/. For each name that both read as a function, the
 base, scope, parameters and return type have to have the same bytes. Blanks and parentheses aren't compared, since LLVM has more of them in
-expressions and addresses. Where LLVM spells a lambda, an unnamed type or a block otherwise, only the base is compared. The script prints
-the names that differ, with the parts in which they do. The status is 1 where more than 5 in 1,000 differ. In the differences that are
-known, LLVM prints the return type of an enclosing function, or takes another type for a substitution. LLVM's headers and library (Debian's
-llvm-dev) are needed.
-"""
+expressions and addresses. Where LLVM spells a lambda, an unnamed type or a block differently, only the base is compared. The script prints
+the names that differ, with the parts in which they do. The status is 1 if more than 5 in 1,000 differ. In the differences that are known,
+LLVM prints the return type of an enclosing function, or takes another type for a substitution. LLVM's headers and library (Debian's
+llvm-dev) are needed."""
 
 import collections
 import json

@@ -4,11 +4,10 @@
     tests/parts.py ROWS [FILE..]
 
 ROWS is `crates/check_rows/stdin`, from which the rows `parts` are taken. Each FILE has symbols, one a line. The text of each name has to be
-the one that a call without parts answers. The parts are slices of the text in the order of their starts, and of two parts one is within the
-other, or they are apart. The bytes that spell a part are in the name, and within the bytes that spell the part around it. A function's text
+the one that a call without parts answers. The parts are slices of the text in the order of their starts, and any two are apart, or one is
+within the other. The bytes that spell a part are in the name, and within the bytes that spell the part around it. A function's text
 consists of its outermost parts, with only a blank, `::`, or the brackets of a suffix between them. SYMDEMANGLE_LIBRARY names the library
-where the package brings none. The status is 1 where something comes out wrong.
-"""
+where the package brings none. The status is 1 where something comes out wrong."""
 
 import re
 import sys

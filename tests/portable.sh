@@ -9,8 +9,8 @@
 #   -s           also with AddressSanitizer and UndefinedBehaviorSanitizer; these builds take minutes
 #   FILE         symbols, one a line; without one 2,000 of each language of the installed libraries (bench/inputs.sh)
 #
-# On each machine the files have to compile without a warning, and every row has to hold (`make check`). With each sum of flags symbols have
-# to have the answers of the proved archive, and their filtered text has to be that of the proved programs, where these are built. The
+# On each machine the files have to compile without a warning, and every row has to hold (`make check`). With each sum of flags, symbols
+# have to have the answers of the proved archive, and their filtered text has to be that of the proved programs, where these are built. The
 # script names what is missing, and says if DIST was made from an older tree. The status is 1 where an answer differs, or a file isn't what
 # MANIFEST says.
 set -u

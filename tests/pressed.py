@@ -61,8 +61,8 @@ def pressed(program, options, words):
 
 
 def check_pairs(program, options):
-    """Checks that the two names of each pair of spellings are pressed alike, and that a spelling is pressed unchanged. Answers whether two
-    names of a pair of names are pressed alike, which is wrong."""
+    """Checks that the two names of each pair of spellings are pressed alike, and that a spelling is pressed unchanged. Answers whether a
+    name and its kin are pressed alike, which is wrong."""
     pairs = [line.split(" ") for line in lines_of("spelled_pairs.txt")]
     wanted = [pair[1] for pair in pairs]
     if pressed(program, options, [pair[0] for pair in pairs]) != wanted or pressed(program, options, wanted) != wanted:
@@ -78,7 +78,7 @@ def check_pairs(program, options):
 
 def check_wide(program, words):
     """Checks that by the wide grammar a spelling has its symbol's text, is pressed again unchanged, is the spelling by the ABI's grammar if
-    that has one, and belongs to only one text. Answers whether a spelling is wrong, or too few names have one."""
+    that grammar has one, and belongs to only one text. Answers whether a spelling is wrong, or too few names have one."""
     texts = [text for text, _ in answers(program, WIDE_TEXT, words)]
     read = [(word, text) for word, text in zip(words, texts) if text is not None]
     spelled = answers(program, ["--press", "--wide"], [word for word, _ in read])

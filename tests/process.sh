@@ -1,7 +1,7 @@
 #!/bin/bash
 # Tests what only a process of demangle shows: tests/process.sh DEMANGLE.
 #
-# It shows its statuses where a stream fails, with the reason; an output whose reader has gone; arguments of any bytes; files of
+# It tests the program's statuses where a stream fails, with the reason; an output whose reader has gone; arguments of any bytes; files of
 # arguments, also devices; what is said where a file is given in the place of a name; and colours on a terminal. The status is 1 where one
 # of these comes out wrong.
 set -u

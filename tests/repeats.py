@@ -5,10 +5,9 @@
 
 A filter keeps texts of the symbols that came last, and finds them by a mark of the name. The names are those of the rows `text`, `refused`
 and `repeated` of check_rows, those of bench/fresh_cpp.txt, and C++ names that share one mark. They are repeated at once, in the order of
-stacks, and in any order. The status is 1 where a line differs from that of a log in which each name comes once, or from that of the name on
-the command line; where names of one mark take twice the time of names that come once; or where a log of many texts takes 4 MB more than a
-short log.
-"""
+stacks, and in any order. The status is 1 where a line differs from the line in a log in which each name comes once, or from the line for
+the name on the command line; where names of one mark take twice the time of names that come once; or where a log of many texts takes 4 MB
+more than a short log."""
 import os
 import random
 import re
@@ -82,7 +81,7 @@ def orders(names, chosen):
 
 
 def differences(program, options, names, chosen):
-    """How many lines differ from those of a log where each name comes once. It prints the first of them."""
+    """How many lines differ from those of a log where each name comes once. The first of them is printed."""
     once = dict(zip(names, filtered(program, options, names)))
     count = 0
     for order in orders(names, chosen):
@@ -95,7 +94,7 @@ def differences(program, options, names, chosen):
 
 
 def unlike_words(program, names):
-    """How many names have a text in a log where each name comes twice that isn't their text on the command line."""
+    """How many names have one text in a log where each name comes twice, and another text on the command line."""
     twice = filtered(program, [], [name for name in names for _ in range(2)])[1::2]
     words = []
     for begin in range(0, len(names), 500):

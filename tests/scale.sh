@@ -1,6 +1,7 @@
 #!/bin/bash
-# Filters a log as docs/SCALE.md says, on several processes of this machine: by split, by GNU parallel, cut from a stream and from a
-# file, and by Dask, a scheduler and two workers on the loopback. Each way has to give the same bytes as one process. The script prints the times.
+# Filters a log as docs/SCALE.md says, on several processes of this machine: by split; by GNU parallel, which cuts a stream or a file; and
+# by Dask, with a scheduler and two workers on the loopback. Each way has to give the same bytes as one process. The script prints the
+# times.
 #
 #   tests/scale.sh SYMFILT [LOG]
 #

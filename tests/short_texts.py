@@ -1,15 +1,14 @@
 #!/usr/bin/env python3
-"""Checks short texts against their definition, and the laws of short and full texts, over real texts and over made ones.
+"""Checks short texts against their definition, and the laws of short and full texts, over real texts and made-up texts.
 
     tests/short_texts.py [--seed N] [--made COUNT] [--shown N] SYMFILT [FILE..]
 
-Files have symbols, one a line; without files they are those of `crates/check_rows/stdin` and of `bench`. The definitions are those of
-`crates/short_names/specs`, with the table of `tools/tables/short_names.txt`. What SYMFILT prints with `--short`, with and without
+Files have symbols, one per line; without files, the symbols are those of `crates/check_rows/stdin` and of `bench`. The definitions are
+those of `crates/short_names/specs`, with the table of `tools/tables/short_names.txt`. What SYMFILT prints with `--short`, with and without
 `--keep-inline`, has to be the short text of what it prints without `--short`. Symbols of each template of the table are tested, too. Three
 laws have to hold for each of these texts, and for texts made of names of the table, arguments and members, with defaults and without: a
 text and its short text have the same full text, a text and its full text have the same short text, and no short text is longer than its
-text. The status is 1 where one of these fails. The script prints for how many of the texts the laws are proved.
-"""
+text. The status is 1 where one of these fails. The script prints the number of texts for which the laws are proved."""
 
 import argparse
 import os
@@ -80,7 +79,7 @@ def std_name(run):
 
 
 def named(run):
-    """The `std::` and the template of a name of the table; none where the table hasn't the name."""
+    """The `std::` and the template of a name of the table; none where the table doesn't have the name."""
     std = std_name(run)
     return std if std and std[1] in DEFAULTS else None
 
@@ -294,7 +293,7 @@ def pass_other(run):
 
 
 def instance(name):
-    """The list that a usual name denotes, and the list's template; none where the name is no usual name."""
+    """The list that a usual name denotes, and the list's template; none where the name isn't a usual name."""
     std = std_name(name)
     for alias, template, arguments in ALIASES if std else ():
         if std[1] == alias:
@@ -536,7 +535,7 @@ def made_symbols():
 
 
 def lines_of(program, options, symbols):
-    """What the program prints for symbols, one a line."""
+    """What the program prints for symbols, one per line."""
     printed = subprocess.run([program, "--wide", *options], input="\n".join(symbols).encode("latin-1") + b"\n", stdout=subprocess.PIPE, check=True)
     return printed.stdout.decode("latin-1").split("\n")[:-1]
 

@@ -4,8 +4,8 @@
 #   tests/stored.sh [FOLDER]
 #
 # A program is crates/NAME/out/NAME, or FOLDER/NAME. Its words, input and files are `args`, `stdin` and `data` of its crate; it has to write
-# what is in `stdout` and `stderr`, and nothing where there is no such file. It has to end with the status in `status`, or with 0 where
-# there is no such file. The status is 1 where a run differs, 2 where no program is built.
+# what is in `stdout` and `stderr`, or nothing if there is no such file. It has to end with the status in `status`, or with 0 if there is no
+# such file. The script's own status is 1 if a run differs, 2 if no program is built.
 set -u
 built=${1:+$(realpath "$1")}
 cd "$(dirname "$0")/.." || exit 2

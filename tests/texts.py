@@ -1,11 +1,11 @@
 #!/usr/bin/env python3
-"""Filters texts, such as tools and people write, by the built programs, and names the texts whose output is wrong.
+"""Has the built programs filter texts like those that tools and people write, and names the texts whose output is wrong.
 
     tests/texts.py SYMFILT [DEMANGLE]
 
 The texts are lines of linkers, debuggers, profilers and traces, bytes that no text has, prompts that wait for an answer, a line of 30 MB, a
-log without symbols, an output whose reader ends early, and a name that is made to exhaust a demangler. The status is 1 where an output is wrong.
-"""
+log without symbols, an output whose reader ends early, and a name that is made to exhaust a demangler. The status is 1 if an output is
+wrong."""
 
 import os
 import resource
@@ -43,7 +43,7 @@ def doubling(times):
     return "_R" + symbol + "E"
 
 
-# For each sort of text a name, and its text, so that a fault of any printer shows.
+# A name and its text for each sort of text, so that a fault of any printer shows.
 NAMES = {
     "_ZTV1A": "vtable for A",
     "_ZTT1A": "VTT for A",
@@ -89,7 +89,7 @@ NAMES = {
     "_RNCNvC3foo3bar0": "foo::bar::{closure#0}",
     "_RNSNvC3foo3bar4call": "foo::bar::{shim:call#0}",
 }
-# The same for the wide grammar.
+# Likewise for the wide grammar.
 WIDE = {
     "_ZNK1AcvbEv": "A::operator bool() const",
     "_ZN1AcvPKcEv": "A::operator char const*()",
@@ -107,11 +107,11 @@ WIDE = {
 
 
 def names_of(names):
-    """Names as an input, and their texts as the output that it has to have."""
+    """Names as an input, and their texts as the output that is required."""
     return "\n".join(names) + "\n", "\n".join(names.values()) + "\n"
 
 
-# What comes in, and what has to come out of both programs.
+# An input, and the output that both programs have to give.
 SAME = {
     "each sort of text": names_of(NAMES),
     "nm": (f"0000000000001139 T {VECTOR}\n", f"0000000000001139 T {VECTOR_TEXT}\n"),
@@ -137,7 +137,7 @@ SAME = {
     "other languages": ("_TtC3foo3Bar ?f@@YAXXZ -[Foo bar] main.main\n", "_TtC3foo3Bar ?f@@YAXXZ -[Foo bar] main.main\n"),
 }
 
-# The same for each program: options, what comes in and what has to come out.
+# For each program: options, an input, and the output that is required.
 SYMFILT = {
     "each sort of text of the wide grammar": (["--wide"], *names_of(WIDE)),
     "stacks": (["--no-params", "--brief"], f"main;{VECTOR};_ZN1A1fIiEEvT_ 42\n", "main;std::vector::push_back;A::f 42\n"),
@@ -251,7 +251,7 @@ def ends_with_its_reader(program, wanted):
 
 
 def survives(program, _name):
-    """The lines before and after a name that doubles seventy times are answered, and that name stays."""
+    """The lines before and after a name that doubles seventy times are answered, and the name itself stays."""
     hostile = doubling(70)
     out, err, status = filtered(program, [], f"_Z1fv\n{hostile}\n_Z1gi\n")
     return (out, err, status) == (f"f()\n{hostile}\ng(int)\n".encode(), b"", 0), out

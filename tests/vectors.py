@@ -1,5 +1,5 @@
 #!/usr/bin/env python3
-"""Runs the built programs on rows of symbols and their answers, and names the rows that a program answers otherwise.
+"""Runs the built programs on rows of symbols and their answers, and names the rows for which a program gives another answer.
 
     tests/vectors.py [--demangle DEMANGLE] SYMFILT [FILE..]
 
@@ -57,7 +57,7 @@ def is_named(word):
 
 
 def is_filtered_alone(word):
-    """Whether the filter takes a word as it is, and no shorter one in it."""
+    """Whether the filter takes a word as it is, and no shorter word within it."""
     return bool(word) and RUN_BYTES.issuperset(word) and not word.endswith(b".")
 
 
@@ -102,7 +102,7 @@ def differences(words, found, wanted):
 
 
 def check_answer(program, options, word, wanted):
-    """The answers for a word on the command line and in the filter that aren't the wanted one."""
+    """How the answers for a word, on the command line and in the filter, differ from the wanted one."""
     wrong = differences([word], program.answers(options, [word]), [wanted])
     if is_filtered_alone(word):
         stays = wanted.startswith(REASONS)

@@ -3,8 +3,8 @@
 
     tools/clauses.py [TREE [OTHER]]
 
-A line is a crate, a function (with its type or trait), and one of its clauses with each run of blanks as one: a
-`requires`, an `ensures`, a law or data of a trait, a ghost field, a model. Without a second tree it lists the clauses of the first
+A line is a crate, a function (with its type or trait), and one of its clauses: a `requires`, an `ensures`, a law or data of a trait, a
+ghost field, a model. Each run of blanks in a clause is written as one. Without a second tree it lists the clauses of the first
 (this repository, if none is named). With a second tree it prints the lines that only one of them has, `-` before those of the first
 and `+` before those of the second, and ends with status 1 if there are any. A function counts as public if it is `pub`, or is in a
 trait or in an `impl` of one. Comments, and where in a crate a function is, don't count.
@@ -48,7 +48,7 @@ def clauses_of(file):
     owner, is_open, function, is_public, depth = "", False, "", False, 0
     for line in joined(file):
         if clause := CLAUSE.match(line):
-            # (a clause of a function that isn't public belongs to none)
+            # (clauses of functions that aren't public aren't listed)
             if is_public or clause[2] == "ghost":
                 text = " ".join(line.split()).replace("( ", "(").replace(" )", ")").rstrip(",;")
                 yield f"{owner} {function}".strip(), text
@@ -70,7 +70,7 @@ def clauses(tree):
             for call, clause in clauses_of(file)]
 
 def main():
-    """Lists the clauses of a tree, or in which two trees differ; returns the status."""
+    """Lists the clauses of a tree, or those in which two trees differ; returns the status."""
     trees = sys.argv[1:] or [ROOT]
     if len(trees) > 2 or str(trees[0]).startswith("-"):
         sys.exit(__doc__.strip())

@@ -17,17 +17,18 @@ for sort, lines in sections("cpp_sorts.txt"):
         SORTS[word][sort] = text
 
 # Each tree with its arguments: (name, (argument, what it is), ..). Clauses that follow from a tree's arguments alone are written from these.
-# An alias is the tree of a node, and isn't a tree of its own.
+# An alias has a node, but isn't among the trees: its node denotes another tree.
 TREES, ALIASES = [], []
-# how each is pressed: the sort of its spelling, and its parts
+# how each tree is pressed: the sort of its spelling, and its parts
 SPELLED = {}
 COMPONENTS, ENCODINGS = [], []
 # the lines below a tree in the table, by their first word: for most words a text; for some the texts of all lines with the word
 BELOW = defaultdict(dict)
 OF_LINES = ("fits", "from", "node", "before", "by_hand", "unfolding")
-# the right sides of clauses that don't follow from a tree's arguments, by definition or law: none if there is no clause; and whole clauses
+# for each definition or law, by tree: the right side of a clause that doesn't follow from the tree's arguments, or None if the tree has no
+# clause; and whole clauses
 CLAUSES, CASES = defaultdict(dict), defaultdict(dict)
-# <type> ::= <letter> <type>: tree, production, letter; the text after the type; and the lines about its number
+# <type> ::= <letter> <type>: tree, production, letter; the text after the type; and the comment on the constant with the tree's number
 WRAPPERS, TEXTS, NUMBERED = [], {}, {}
 # names of arguments in other places, by place: of a tree's argument, or of all arguments with this name
 NAMES = defaultdict(dict)

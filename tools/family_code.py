@@ -15,7 +15,7 @@ FILES = [(*head.split(": ", 1), [line.split(": ", 1) for line, _ in lines]) for 
 # ## What a row means
 
 def outcome(means):
-    """What a row means, in code. Of a pair's two trees only one may be made, if the left one exists already or there is no right one."""
+    """What a row means, in code. Only one tree of a pair may be made, if the left one exists already or there is no right one."""
     if not means.startswith("pair("):
         return said("means", means, CODE)
     letter, left, right = split(re.fullmatch(r"pair\((.*)\)", means)[1])

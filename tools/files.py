@@ -10,7 +10,7 @@ TABLES, TEMPLATES = (os.path.join(os.path.dirname(os.path.abspath(__file__)), fo
 NOTHING = object()
 
 def read(path, otherwise=NOTHING):
-    """The text of a file, or another value where there is no such file, if one is given."""
+    """The text of a file, or `otherwise`, if that is given and there is no such file."""
     if otherwise is not NOTHING and not os.path.exists(path):
         return otherwise
     with open(path, encoding="utf-8", errors="replace") as file:
@@ -78,7 +78,7 @@ def fill(text, /, **holes):
     return re.sub(r"@([A-Z_]+)@|(?m:^@([A-Z_]+):.*\n(?:@\2:.*\n)*)", lambda match: (filled if match[1] else of_each)(match), text)
 
 def template(name, /, **holes):
-    """The text of a template, filled: of a file with `.in` after its name, since the gate checks every file that ends in `.rt` or `.antt`."""
+    """The filled text of a template: a file with `.in` after its name, since the gate checks every file that ends in `.rt` or `.antt`."""
     return fill(read(f"{TEMPLATES}/{name}.in"), **holes)
 
 def whole(path, /, **holes):

@@ -85,7 +85,7 @@ def edited(crate, edit):
     return path, text, changed
 
 def time_edit(crate, edit, tells):
-    """The seconds that it takes to refuse an edit. If asked for, it prints the clauses that weren't proved."""
+    """The seconds that it takes to refuse an edit. If requested, this also prints the clauses that weren't proved."""
     path, text, changed = edited(crate, edit)
     path.write_text(changed)
     seconds, printed = timed(crate, "rt", "check", "--jobs", "1")
@@ -217,7 +217,7 @@ def goals_by_text(crate):
 
 def by_function(kept, scale):
     """The seconds of each function's modules, by the times at which these were kept: at one job a module's file is written as its check
-    ends, and they are checked one after the other."""
+    ends, and modules are checked one after the other."""
     files = sorted((file.stat().st_mtime, file.name.replace(".decls.", ".").removesuffix(".oantt")) for file in Path(kept).rglob("*.oantt"))
     found = defaultdict(Counter)
     for (before, _), (at, file) in zip([files[0], *files], files):

@@ -36,8 +36,8 @@ def lawful(extended=True, widened=False):
 
 def files(crates):
     """What is written: each file's path in the folder of the crates, and its text."""
-    # what may follow each kind, and how many chains begin it, is by the wide grammar; the height of its lowest tree is by the ABI's
-    # grammar, since the wide one has all of that grammar's trees
+    # what may follow each kind, and how many chains begin it, are those of the wide grammar; the height of its lowest tree is that of the
+    # ABI's grammar, since the wide one has all of that grammar's trees
     _, _, height = lawful()
     later = grammar_code.alternatives()
     lawful(extended=False)

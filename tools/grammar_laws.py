@@ -1,5 +1,5 @@
-"""The laws of a grammar's table (rules.py): from its rules to its faults, what may follow each kind, how many chains begin it
-and how high its lowest tree is."""
+"""The laws of a grammar's table (rules.py). They follow from the rules: the table's faults, what may follow each kind, how
+many chains begin it and how high its lowest tree is."""
 from rules import DIGITS, DIG, K, MARKED, P, TOKENS
 
 MOST_CHAINS = 3

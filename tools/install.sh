@@ -5,8 +5,8 @@
 #   tools/install.sh --uninstall [PREFIX]     removes the same files, and the folders of its own that are left empty
 #   tools/install.sh --libraries [PREFIX]     only the libraries, with headers, what finds them, and the packages for Rust, Python and Go
 #
-# From the environment: LIBDIR, the folder of libraries under PREFIX (lib), as LIBDIR=lib64 or LIBDIR=lib/x86_64-linux-gnu; and
-# DESTDIR, a folder in which all is put as if it were the root, for packages. It proves what isn't proved yet, which takes its time
+# LIBDIR in the environment is the folder of libraries under PREFIX (lib), as LIBDIR=lib64 or LIBDIR=lib/x86_64-linux-gnu. DESTDIR is a
+# folder that everything is put into as if it were the root, for packages. The script proves what isn't proved yet, which takes long only
 # once.
 set -eu
 mode=all
@@ -78,7 +78,8 @@ LIST
     done
 }
 
-# What a document links to and isn't installed is named without a link. The package for Go has only the way over the installed library.
+# A file that a document links to and that isn't installed is named without a link. The installed package for Go has only the code that uses
+# the installed library.
 LOCAL='ARCHITECTURE|DECISIONS|TESTING|WORKING'
 put() { # put BITS FROM TO
     case $3 in

@@ -6,10 +6,10 @@
 #   -d DIST    the folder that has symdemangle.c and symdemangle.h, in the place of dist/
 #   -w PAGE    the folder that web/module/make.sh made; without one there is no package for JavaScript
 #
-# OUT/rust and OUT/go get the folders of the crate and of the module for Go, OUT/npm that of the package for JavaScript, and OUT/python
-# the source package and a wheel for each compiler that is here (cc, and cross compilers for 64-bit ARM Linux and for Windows). What cargo
-# and npm pack of theirs is in OUT. GO_MODULE is the path that go.mod gets, that of the repository which the module is released in.
-# What isn't installed is named and left out. It needs no kit and no network.
+# OUT/rust and OUT/go get the folders of the crate and of the module for Go, and OUT/npm gets that of the package for JavaScript. OUT/python
+# gets the source package, and a wheel for each compiler that is here (cc, and cross compilers for 64-bit ARM Linux and for Windows). OUT
+# also gets what cargo and npm pack of their folders. GO_MODULE is the path that go.mod gets: that of the repository in which the module is
+# released. What isn't installed is named and left out. It needs no kit and no network.
 set -euo pipefail
 here=$(cd "$(dirname "$0")/.." && pwd)
 dist=$here/dist page=

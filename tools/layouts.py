@@ -142,7 +142,7 @@ def others(found):
                  full=found["fill_full"].others)
 
 def whole_file(function, shown):
-    """The file of answers of a function that has no answers by hand."""
+    """The file of answers of a function that has no hand-written answers."""
     body = "\n\n".join("\n".join(lines) for lines in shown)
     return template("cpp_layout/answers.antt", script="tools/trees.py", uses=imports(dict(ARMS["names"]), body, "use"), function=function,
                     answers=body)

@@ -1,5 +1,6 @@
-"""What each production does: from its row, and from cpp_words.txt, the table of the words of rows, to definitions of cpp_grammar, to the
-number of nodes that it makes, and to the code that makes them. grammar.py calls it; cpp_names.txt says what the words of a row mean."""
+"""What each production does, by its row and by cpp_words.txt, the table of the words of rows. From these the script makes definitions
+of cpp_grammar, the number of nodes that a production makes, and the code that makes them. grammar.py calls it; cpp_names.txt says what
+the words of a row mean."""
 import re
 
 import cpp_trees
@@ -19,7 +20,8 @@ HOLES = {"$1": r"(?P<hole_1>\d)", "$2": r"(?P<hole_2>\d)", "$c": "(?P<hole_c>.)"
 TABLE = {head: [columns(line) for line, _ in lines] for head, lines in sections("cpp_words.txt")}
 
 class Word:
-    """A word with numbers of parts, and its forms: in definitions, in code, and in code of a step. A form by hand is empty."""
+    """A word with numbers of parts, and its forms: in definitions, in code, and in code of a step. A form that is written by
+    hand is empty here."""
     def __init__(self, word, *forms):
         pattern = re.escape(word)
         for hole, group in HOLES.items():
@@ -27,7 +29,7 @@ class Word:
         self.pattern, self.forms = re.compile(pattern), [*forms, "", ""]
 
     def said(self, text, form, nodes_made):
-        """What a text means, if it is this word; with parts, letters and how many nodes are made."""
+        """What a text means if it is this word, with parts, letters and how many nodes are made."""
         found = self.pattern.fullmatch(text) if self.forms[form] else None
         if not found:
             return ""
@@ -55,7 +57,7 @@ def filled(path, names, given):
     return f"{path}({', '.join(given)})" if given else path
 
 def made(text, form=DEFINITION, is_piece=False):
-    """A tree or a piece of a name that is made. A piece of numbers alone has no names."""
+    """A tree or a piece of a name that is made. In code, a piece whose arguments are all numbers has no field names."""
     known, of = said("made", text, form), re.fullmatch(r"(\w+)\((.*)\)", text)
     if known or not of:
         return known or ("only " if form == DEFINITION else "") + argument(text, form)
@@ -136,7 +138,7 @@ class Row:
         return self.steps[part] if part < len(self.steps) else self.others
 
     def definition(self):
-        """The row as the definition has it: what it does that most rows don't, around what its parts become."""
+        """The row as definitions have it: what its parts become, within constructors for what this row does and most rows don't."""
         form, before, onward = named(self.form), listed(map(named, self.before)), named(self.onward)
         row = f"plain {braced(form)}"
         if self.before and self.onward != "quiet":
@@ -152,7 +154,8 @@ class Row:
         return f"with_number_tested ({row})" if self.tests_number else row
 
     def quiet(self):
-        """Before how many of the row's parts nothing is done: none, the first ones, or all (five at most)."""
+        """How many parts come before the first part before which something is done; five, the most that a row has, if there is no such
+        part."""
         loud = [part for part, before in enumerate(self.before) if before != "quiet"]
         return loud[0] if loud else ALL_PARTS if self.onward == "quiet" else len(self.before)
 
@@ -165,7 +168,7 @@ class Row:
         return counts
 
     def made_at_end(self):
-        """How many nodes are made at most once its parts are read."""
+        """How many nodes are made at most once the row's parts are read."""
         word, *others = self.form.split()
         if word == "makes":
             return most_made(self.form[len("makes "):])
@@ -175,7 +178,7 @@ class Row:
             return sum(most_made(braced(tree)) for tree in pair(self.means)[1:])
         return int(word in ("cell", "item", "a_name", "in_place"))
 
-# how a row names arguments: each text of definitions, as the row has it
+# patterns of a row's definition without argument names, and what each becomes with the names
 NAMES = [(re.compile(old), new) for old, new in TABLE["named"]]
 
 def named(text):

@@ -52,7 +52,7 @@ def fields_of():
     return [line if len(line) <= 160 else line.replace(" = ", " =\n    ") for line in lines]
 
 def tree_from():
-    """The tree of such fields, by its production."""
+    """A tree from its fields, by its production."""
     rows = []
     for tree in views():
         parts, numbers = iter(range(len(tree))), iter(range(len(tree)))
@@ -71,7 +71,8 @@ def product(facts):
     return alone_or(facts, lambda several: " × ".join(f"({fact})" if " < " in fact else fact for fact in several))
 
 def both_are(facts):
-    """What is free in a node of two parts, from the facts of the parts. These come before the parts."""
+    """The proof of what is free in a node of two parts: what is free in each part, and then the facts of both. The fact of a node of one
+    part is that part's."""
     noted = [f"({'free_at' if fact.startswith('at ') else 'piece_frees'} y.nodes {fact.split()[1]})" for fact in facts]
     return alone_or(facts, lambda several: applied("both-are", [*noted, *[f"({fact})" for fact in several]]))
 
@@ -82,7 +83,7 @@ def depending(parts):
     return parts[0] if parts[0].startswith("piece") else f"passed ({parts[0]})"
 
 def passed(facts):
-    """The clause of a node of one part, which has the fact of this part."""
+    """The clause of a node by the facts of its parts: several facts are rewritten; a node of one part has the fact of this part."""
     if len(facts) > 1:
         return rewritten(facts)
     return facts[0] if facts[0].startswith("piece") else f"ap passed ({facts[0]})"
@@ -116,7 +117,7 @@ def noted_nodes():
             yield node.name, [(next(letters[sort] if TYPES[sort][1] else others), TYPES[sort][0]) for _, sort in node.arguments]
 
 def without(node, given):
-    """The fact that n isn't a node with such arguments: the field for this, the node as it is matched, and the proof."""
+    """The fact that n isn't a node with these arguments: the field for this, the node as it is matched, and the proof."""
     field, own = f"not_{node.lower()}", applied(f"Node.{node}", [name for name, _ in given])
     premise = "".join(f"({name} : {type}) " for name, type in given) + "→ " if given else ""
     refuted = applied(f"other.{field}", [name for name, _ in given])

@@ -9,7 +9,8 @@ from notation import Steps, answer, camel, together
 from rust_layout import arm
 
 class Node:
-    """A node: its name, its tree's, its arguments, the sorts of the tree's arguments, and its fields (each with name in code, sort, type)."""
+    """A node: its name, its tree's name, its arguments, the sorts of the tree's arguments, and its fields (each with its name in code, its
+    sort and its type)."""
     def __init__(self, words, tree, *given):
         others = [tuple(word.split(":")) for word in words if ":" in word]
         self.name = next((word for word in words if ":" not in word), camel(tree))
@@ -26,11 +27,11 @@ class Node:
         return [name for (name, _, _), sort in zip(self.fields, self.sorts) if sort in sorts]
 
     def known(self):
-        """By each field's name, the fact that is known of it: a part of b where there are several facts."""
+        """The fact that is known of each field, by the field's name: a part of `b` where there are several facts."""
         return {field: fact for (field, _, _), (_, _, fact) in zip(self.fields, placed(self.arguments)) if fact}
 
     def view(self):
-        """The view of a node that shows no more than this: the code of its numbers, its texts and its parts."""
+        """The view of a node that shows only its numbers, its texts and its parts: the code of each of these."""
         numbers = [SORTS["number"][sort].format(name) for name, sort, _ in self.fields if sort in SORTS["number"]]
         said = self.said("numbers")
         texts = [SORTS["text"][sort].format(name) for name, sort, _ in self.fields if sort in SORTS["text"]]
@@ -45,7 +46,7 @@ def nodes():
     return [Node(words.split(), tree, *rows[tree]) for tree in [*front, *others, *back] for words in BELOW["node"].get(tree, [""])]
 
 def placed(arguments, over=tuple(SORTS["bound"])):
-    """The arguments, each with the fact of its bound if it is of these sorts: a part of b where there are several bounds."""
+    """The arguments, each with the fact of its bound if its sort is one of these: a part of `b` where there are several bounds."""
     bounds = [name for name, sort in arguments if sort in SORTS["bound"]]
     facts = {name: "b" if len(bounds) == 1 else f"b.{place}" for place, name in enumerate(bounds)}
     return [(name, sort, facts[name] if sort in over else "") for name, sort in arguments]
@@ -127,7 +128,7 @@ def required(contract, given, known):
     return f"record {{ {'; '.join(f'{name} = {fact}' for name, fact in facts)} }}" if facts[0][0] else facts[0][1]
 
 def noted_answers(crates, others):
-    """The answers that each arm notes what there is to note. The function that it calls requires the arguments to be earlier nodes."""
+    """The answers that each arm notes what there is to note. The function that the arm calls requires the arguments to be earlier nodes."""
     code, step, lines = read(f"{crates}/cpp_tree/src/notes.rt"), Steps(), []
     for node, right in ((node, noting(node)) for node in nodes()):
         if not right:

@@ -47,7 +47,7 @@ def answer(goal, value, unfolding=None, given="c"):
     return [f"pub {goal} : goal.{goal}", *([f"unfolding {unfolding}"] if unfolding else []), f"{goal} {given} ={value}"]
 
 class Steps:
-    """The calls so far, each with the arms in which it was: a step has the arm's name from the second call of its function on."""
+    """The calls so far, each with the arms in which it occurred: a step has the arm's name from the second call of its function on."""
     def __init__(self):
         self.arms = {}
 
@@ -59,7 +59,7 @@ class Steps:
         return call + (f"-in-{arm}" if len(arms) > 1 else "") + (f"-{again}" if 1 < again < len(arms) else "")
 
 def is_used(name, text):
-    """Whether a text of definitions names this."""
+    """Whether a text of definitions uses this name."""
     if "◌" in name:
         return f" {name.strip('◌')} " in text
     return re.search(rf"(?<![\w.:-]){re.escape(name)}(?![\w-])", text) is not None

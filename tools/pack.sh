@@ -22,7 +22,7 @@ number() { # number NAME : one of the header's version
 }
 major=$(number MAJOR) minor=$(number MINOR) patch=$(number PATCH)
 version=$major.$minor.$patch
-# While the first number is 0 the second says what a program can run with.
+# While the version's first number is 0, the second one says what a program can run with.
 abi=$major
 [ "$major" != 0 ] || abi=$major.$minor
 
@@ -35,8 +35,8 @@ compile strings c99
 compile heap c99
 compile arena c11
 
-# Makes one object, which binds the calls between its parts, and keeps the header's names alone: the proved calls, which end in _of,
-# become local.
+# Makes one object, which binds the calls between its parts, and keeps only the header's names: the proved calls, which end in _of, become
+# local.
 one_object() { # one_object NAME PART..
     name=$1
     shift

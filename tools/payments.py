@@ -1,5 +1,5 @@
-"""Writes parts of the proofs that a symbol's bytes pay for its pressed spelling (Short of cpp_press_laws): lists of productions that have
-the same proof, from the clauses that prove them, and for each kind the lemma of each of its productions, from the grammar."""
+"""Writes parts of the proofs that a symbol's bytes pay for its pressed spelling (Short of cpp_press_laws). They are lists of productions
+that have the same proof, from the clauses that prove them, and for each kind the lemma of each of its productions, from the grammar."""
 import re
 
 import grammar
@@ -20,7 +20,7 @@ def listed(text, function, lemma):
     return found, lines + ([f"{function} _ = []"] if "" not in found else [])
 
 def declarations(crates):
-    """Path, name, and the lines of its clauses."""
+    """The path and the name of each declaration, and the lines of its clauses."""
     texts = {file: read(f"{crates}/{FOLDER}/{file}.antt") for file in ("Types", "Lists", "Qualified", "Names", "Gains")}
     rows = []
     for sort, file in LISTS.items():

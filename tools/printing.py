@@ -37,7 +37,8 @@ class Row:
         return {**said, "c": "(context_of ctx)", "d": self.detail}
 
     def steps(self):
-        """What is added from first to last: for each the function, its arguments, and whether it is a text that may be empty."""
+        """What is added from first to last: for each addition the function, its arguments, and whether what it adds is a text
+        that may be empty."""
         sorts = dict(self.takes)
         def text(word):
             return word if sorts.get(word) == "text" else f"texts::{word}"

@@ -1,5 +1,5 @@
-"""The clauses of cpp_grammar, cpp_term and cpp_link that each of C++'s productions has by its row, by its family, or because it is common:
-from the grammar's rows."""
+"""Makes from the grammar's rows the clauses of cpp_grammar, cpp_term and cpp_link that each of C++'s productions has by its row, by its
+family, or because the production is common."""
 import re
 
 import grammar
@@ -12,7 +12,7 @@ from tree_clauses import SCOPED, SUBTREES
 
 # what reads an argument of a sort: a tree with arguments in its parameters is annotated
 READ = {sort: sort for sort in (BYTES, NUMBER, TRUTH, QUALIFIERS, MARK, SIGNED, DISCRIMINATOR)}
-# what is read from arguments, and from values of parts: by name the function that reads it, and the holes of its clause
+# what is read from arguments and from values of parts: for each name, the function that reads it, and the holes of its clause
 READ_OF = (
     ({name: f"is_{name}" if name in ("listed", "there") else f"{name}_of" for name in (
         "tree", "piece", "listed", "qualifiers", "ref", "letter", "there", "mark", "text", "signed", "adjustment")},
@@ -41,7 +41,7 @@ def by_production(function, values, others):
 SLACK_BASE = 10
 
 def slack():
-    """For each kind, the fewest such nodes that its productions allow: cpp_link's Bound proves that these suffice."""
+    """For each kind, the least slack that its productions allow: cpp_link's Bound proves that this suffices."""
     kinds, productions, rows = grammar.wide()
     def needed(production, least):
         eats, symbols = productions[production]
@@ -183,7 +183,7 @@ def declarations(crates):
     before = {production: listed(row.made_before()) for production, row in rows.items() if row.made_before()}
     at_end = {production: row.made_at_end() for production, row in rows.items() if row.made_at_end()}
     yield "cpp_grammar/proofs/ClosedValues.antt", "built_good", built_good()
-    # whether a maker takes encodings, and the lemma that a maker which takes some isn't one that takes none
+    # whether a maker takes encodings, and the lemma that a maker that takes encodings isn't one that takes none
     takes = by_maker("takes_encodings {}", lambda tree: encodings_in(tree) and "true", "false")
     none = by_maker("none_are_taken {} xs h", lambda tree: encodings_in(tree) and "absurd (true≢false h)", "tt")
     yield from (("cpp_term/proofs/MeaningNoted.antt", name, lines) for name, lines in (

@@ -1,14 +1,14 @@
 #!/bin/bash
-# Makes what is released of a proved tree: a tarball with the programs, the libraries, headers, man pages, completions and documents,
-# the same as Debian packages (the shared library, what links it, the programs), dist/ as a tarball, and their checksums.
+# Makes what is released of a proved tree: a tarball with the programs, the libraries, headers, man pages, completions and documents; Debian
+# packages of the same (the shared library, what links it, the programs); dist/ as a tarball; and the checksums of all these.
 # tools/language_packages.sh makes the packages of the languages.
 #
 #   tools/release.sh OUT
 #
-# The tree has to be committed, and proved: `rt run` in crates/symfilt and crates/demangle and `rt lib` in crates/symdemangle have
-# built what is there now. The same commit gives the same bytes each time, with the same compiler, binutils, tar, gzip and dpkg; all times are
-# SOURCE_DATE_EPOCH, that of the commit where it isn't set. MAINTAINER is whom the Debian package names, as `Name <address>`. The C files of
-# dist/ have to be of this tree, unless OLD_DIST is `passes`, for tests.
+# The tree has to be committed, and proved: `rt run` in crates/symfilt and crates/demangle and `rt lib` in crates/symdemangle have built
+# what the tree has now. The same commit gives the same bytes each time, with the same compiler, binutils, tar, gzip and dpkg; all times are
+# SOURCE_DATE_EPOCH, or the commit's time where that isn't set. MAINTAINER is whom the Debian package names, as `Name <address>`. The C
+# files of dist/ have to be of this tree, unless OLD_DIST is `passes`, for tests.
 set -euo pipefail
 [ $# -eq 1 ] || { echo "usage: $0 OUT" >&2; exit 2; }
 mkdir -p "$1"
@@ -31,7 +31,7 @@ for program in symfilt demangle; do
     [ -x crates/$program/out/$program ] || refuse "$program isn't built: \`rt run -- _RNvC3foo3bar\` in crates/$program proves and builds it"
 done
 [ -f crates/symdemangle/out/libsymdemangle.a ] || refuse "the library isn't built: \`rt lib\` in crates/symdemangle proves and builds it"
-# Each is quick where what was built is of this source; where it isn't, it proves it, or fails.
+# Each command is quick if what was built is of this source. Otherwise it proves the program or the library, or fails.
 for program in symfilt demangle; do
     (cd crates/$program && rt run -- _RNvC3foo3bar) >/dev/null || refuse "$program isn't proved"
 done

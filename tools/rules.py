@@ -1,6 +1,6 @@
-"""The rules of C++'s grammar: from the tables cpp_names.txt, cpp_types.txt, cpp_arguments.txt, cpp_wide_forms.txt and cpp_expressions.txt
-to the productions with their symbols and rows, to the kinds with their alternatives, and to how code and definitions name productions.
-cpp_names.txt says how a rule is written."""
+"""The rules of C++'s grammar. From the tables cpp_names.txt, cpp_types.txt, cpp_arguments.txt, cpp_wide_forms.txt and cpp_expressions.txt
+it makes the productions with their symbols and rows, the kinds with their alternatives, and the names of productions in code and
+definitions. cpp_names.txt says how a rule is written."""
 import re
 
 import cpp_trees
@@ -21,7 +21,7 @@ K, MARKED = {}, []         # (kind, class, production)
 ALIKE = {}
 # the family of each production, and its place among the family's arms; and the common productions with code before their parts
 FAMILY, WITH_CODE_BEFORE, MOST_ARMS = {}, set(), 256
-# the lemma of what a production's bytes pay for, if its name isn't the production's: in one kind, or in any
+# the lemma of what a production's bytes pay for, if the lemma's name isn't that of the production: in one kind, or in any
 PAYS = {}
 # the ABI's lines above a production, and the comment on productions that mean the same
 ABOVE = {}
@@ -39,7 +39,7 @@ CLASSES = {
     "@WIDE_BUILTIN": "".join(code[1] for code, _ in words.WIDE_BUILTINS), "@INTEGER_TYPE": letters_of({words.INTEGER}, False),
     "@NULL_TYPE": letters_of({words.NULL}, True), "@CHARACTER_TYPE": letters_of({words.CHARACTER}, True),
     "@ABBREVIATION": "".join(letter for letter, _ in words.ABBREVIATIONS), "@SPECIAL": "".join(letter for letter, _ in words.SPECIALS),
-    # of the letters for names, those after T
+    # the letters for names that come after a T
     "@NAMED_SPECIAL": "".join(code[1] for code, _ in words.NAMED_SPECIALS if code[0] == "T"),
 }
 for code, _ in words.OPERATORS:

@@ -2,7 +2,7 @@
 import re
 
 def split(text):
-    """The pieces between the commas of a text that are in no brackets. A bracket or a comma may be a letter in quotes."""
+    """The pieces of a text between the commas that are in no brackets. A bracket or a comma may be a letter in quotes."""
     parts, depth = [""], 0
     for i, char in enumerate(text):
         if text[i - 1:i] != "'" or text[i + 1:i + 2] != "'":
@@ -32,7 +32,7 @@ class Made:
         return all(isinstance(part, str) or part.fits() for _, part in self.given) and len(self.inside()) <= 60
 
 def parsed(text):
-    """A call or a structure, if the text is one, or the text."""
+    """The call or the structure that a text is, or otherwise the text."""
     if found := re.fullmatch(r"([\w.:]+)\((.*)\)", text):
         return Made(found[1], [("", parsed(part)) for part in split(found[2])], False)
     if found := re.fullmatch(r"([\w:]+) { (.*) }", text):

@@ -1,5 +1,6 @@
-"""What follows from the arguments of Rust's nodes: from the nodes that productions make (rust_parts.py) to the clauses of rust_tree, to the
-answers for the views of nodes, and to the code that shows lists, its answers and its lemmas, by the templates of templates/rust_tree."""
+"""Makes what follows from the arguments of Rust's nodes. By the templates of templates/rust_tree, the nodes that productions make
+(rust_parts.py) give the clauses of rust_tree, the answers for the views of nodes, and the code that shows lists with its answers and
+lemmas."""
 import textwrap
 
 from files import template
@@ -27,7 +28,7 @@ def broken(front, value, indent=""):
     return f"{front} {value}" if len(f"{indent}{front} {value}") <= 120 else f"{front}\n    {value}"
 
 def unwrapped(text, count):
-    """What is within parentheses, if it is alone."""
+    """A text that is the only one, without its parentheses; other texts as they are."""
     return text[1:-1] if count == 1 and text[0] == "(" else text
 
 def by_node(clause, indent="", without=()):

@@ -74,7 +74,7 @@ def read_in_specs(part):
     return "\n".join([*lines, f"{part.name} rest = Ok ({part.missing[1]}, rest)" if part.missing else f"{part.name} _ = Err no_such_parts"])
 
 def agrees(part):
-    """The lemma that this agrees with what is read from the values."""
+    """The lemma that this function agrees with what is read from the values."""
     lemma = f"{part.other}_agrees"
     given = f" {part.like[1:-1]} {part.first} {part.missing[2]} →" if part.first is not None else ""
     called = f"{lemma} g e" if given else f"{lemma} g"
@@ -133,7 +133,7 @@ def made_in_specs(made):
     return filled("made.antt", made, read=read, given=given)
 
 def made_gives(made):
-    """The lemma that both agree with what the production means."""
+    """The lemma that the function in code and the definition agree with what the production means."""
     names, read, front = made.names(), [], "ps vs are"
     for name, part in zip(names, made.parts):
         lists = f" lists.{part.name}" if part.first is not None else ""

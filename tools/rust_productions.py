@@ -1,5 +1,6 @@
-"""Writes what follows from the parts of each of Rust's productions, and from each sort of part: whole files, and declarations in files by
-hand, each below a line that says so. The texts come from rust_parts.py, rust_spelled.py, rust_trees.py and rust_nodes.py."""
+"""Writes what follows from the parts of each of Rust's productions, and from each sort of part: whole files, and declarations in
+hand-written files, each below a line that says so. The texts come from rust_parts.py, rust_spelled.py, rust_trees.py and
+rust_nodes.py."""
 import rust_grammar
 from files import read, template
 from rust_parts import NODES, PARTS, WRITTEN, agrees, made_gives, made_in_code, made_in_specs, read_in_code, read_in_specs
@@ -22,7 +23,7 @@ def whole_files():
     yield from list_answers()
 
 def declarations():
-    """The paths of hand-written files with runs of written declarations: a path and the declarations of each run."""
+    """The hand-written files with runs of declarations that are written here: a path, and the declarations of each run."""
     yield "rust_grammar/specs/Productions.antt", [["\n".join([f"-- {WRITTEN}", "abbrev pub number_of : Production → ℕ",
             *[f"number_of {production} = {k}" for k, production in enumerate(rust_grammar.PRODUCTIONS)]])]]
     yield "rust_v0/src/semantics.rt", [[made_in_code(made) for made in NODES]]

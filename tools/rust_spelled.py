@@ -1,5 +1,5 @@
-"""What is proved for each of Rust's productions: from the sorts of their parts to the sorts of their values, to the proof that trees which
-are read can be spelled, and to the proof that what is pressed is read as the same tree."""
+"""What is proved for each of Rust's productions. From the sorts of their parts it makes the sorts of their values, the proof that trees
+which are read can be spelled, and the proof that what is pressed is read as the same tree."""
 from itertools import product
 from types import SimpleNamespace
 
@@ -13,7 +13,7 @@ from rust_parts import BY_NAME, WRITTEN, parts_of
 VALUES, KIND_SORTS = ([line.split() for line, _ in lines] for _, lines in sections("rust_sorts.txt"))
 
 def slot(part):
-    """What a production requires of such a part."""
+    """What a production requires of this part."""
     return part.slot or f"{'maybe' if part.missing else 'one'} {part.name}"
 
 def production_sort(letter):
@@ -31,7 +31,7 @@ def sorts():
     return [[of_values, of_value], [places], of_productions]
 
 def slot_then(part):
-    """The lemma that a required part is there, and is of its sort."""
+    """The lemma that a required part exists, and is of its sort."""
     name, is_filled = part.name, "(record { is = fill.is })"
     fronts = [f"{name}_then make slots ({front.valued.replace('value.', '')} ∷ rest) f fill each = each ({front.tree}, rest) {is_filled}"
               for front in part.fronts]
@@ -49,7 +49,7 @@ def made_of_slots(made):
 
 # ## What is read can be spelled
 
-# the clauses of productions that bind lifetimes are by hand
+# the clauses of productions that bind lifetimes are written by hand
 BINDERS = ("Function", "Dyn")
 # what needs nothing to be spelled
 FREE = ("unsafe", "truth")
@@ -108,7 +108,7 @@ class Kept:
         press = [part.press.replace("@", name) for part, name in self.pairs] + [f"letter {byte}" for byte in self.bytes]
         return f"({' and '.join(press[first:])})"
     def fact(self):
-        """The fact that the values of the parts have to mean."""
+        """The fact of what the values of the parts have to mean."""
         if self.takes:
             return f"({'Ends' if self.ends else 'Makes'} {self.rule} {self.byte} c {self.value})"
         return f"(λ values. (at : At) → at.bound ≡ c → meaning_of (production_of {self.rule}.number) at values ≡ plain at {self.value})"
@@ -156,7 +156,7 @@ def kept_parts(kept):
     return [*lines, (front + own + ")" if values else front[:-1] + own) + ")" * (2 * len(kept.kinds)), f"(λ {at} values r. r {at})"]
 
 def kept_clause(kept):
-    """The proof that the pressed spelling of such a tree is read as this tree."""
+    """The proof that the pressed spelling of the production's tree is read as this tree."""
     made = kept.made
     front = f"{made.of}-kept s c fits inside minus{' kind has' if made.of == 'path' else ''} {kept.tree} good closed ="
     takes = "takes-ends" if kept.ends else "takes-plain" if kept.takes else "chains-plain"

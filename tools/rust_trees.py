@@ -3,7 +3,8 @@ import sameness
 from rust_parts import NODES, WRITTEN
 from rust_spelled import names_of
 
-# the trees of each family, by constructor, each with the sorts of its arguments; trees that no production makes of parts are by hand
+# the trees of each family, by constructor, each with the sorts of its arguments; trees that no production makes of parts are written by
+# hand
 FAMILIES = {"path": "Path", "arguments": "Arguments", "type": "Ty", "types": "Tys", "bounds": "Bounds", "bindings": "Bindings",
             "constant": "Constant"}
 LEAVES = {"arguments": {"no_arguments": []}, "type": {"basic": ["letter"], "path_type": ["path"]}, "types": {"no_types": []},
@@ -35,7 +36,7 @@ def same(families, indent):
     return by_family(families, indent, f"{'' if indent else 'abbrev '}pub same_@ : @@ → @@ → Bool", clause, "same_@ _ _ = false")
 
 def equal(families, indent):
-    """The lemma that trees which are found the same are equal."""
+    """The lemma that two trees are equal if they are found to be the same."""
     def fact(place, count):
         whole = "h"
         for _ in range(count - 1 - max(place, 1)):
@@ -48,7 +49,7 @@ def equal(families, indent):
     return by_family(families, indent, "pub equal-@ : (a b : @@) → same_@ a b ≡ true → a ≡ b", clause, "equal-@ _ _ h = cc")
 
 def itself(families, indent):
-    """The lemma that each tree is found the same as itself."""
+    """The lemma that each tree is found to be the same as itself."""
     def clause(of, constructor, sorts):
         facts = [of_sort(sort, f"eq-eqb a{i} a{i} refl", f"{{0}}-itself a{i}") for i, sort in enumerate(sorts)]
         return f"@-itself {sameness.numbered(constructor, len(sorts))} = {sameness.itself(facts)}"

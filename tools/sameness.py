@@ -11,7 +11,7 @@ def same_clause(function, constructor, tests):
     return f"{function} {numbered(constructor, len(tests))} {numbered(constructor, len(tests), 'b')} = {own or 'true'}"
 
 def equal_clause(function, constructor, lemmas, facts, first=()):
-    """The clause that such trees are equal, by a lemma and a fact of each argument."""
+    """The clause that trees of a constructor are equal, by a lemma and a fact of each argument."""
     lines = [f"{function} {numbered(constructor, len(lemmas))} {numbered(constructor, len(lemmas), 'b')} h =", *first]
     lines += [f"    let e{i} : a{i} ≡ b{i} = {lemma} a{i} b{i} {fact} in" for i, (lemma, fact) in enumerate(zip(lemmas, facts))]
     return [*lines[:-1], lines[-1] + (" cc" if lemmas else " refl")]

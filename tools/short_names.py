@@ -43,7 +43,7 @@ def flags(firsts):
     return ["    " + "".join(bits[k:k + 32]) + ("\\" if k < 224 else "") for k in range(0, 256, 32)]
 
 def marks_of(groups, place):
-    """For each byte a bit for each group of texts: whether one of these has the byte in a place; in the formatter's layout."""
+    """For each byte a bit for each group of texts: whether a text of the group has the byte in a place; in the formatter's layout."""
     found = [sum(1 << bit for bit, group in enumerate(groups) if any(ord(text[place]) == byte for text in group)) for byte in range(256)]
     return textwrap.wrap(" ".join(f"{marks}," for marks in found), 99, initial_indent="    ", subsequent_indent="    ")
 

@@ -1,5 +1,6 @@
 """The clauses of each tree whose spelling is a row of cpp_trees.py: its definition, and the laws that are shown spelling by spelling.
-Each is at the end of a declaration of cpp_press_laws or cpp_spelling whose first clauses are by hand: trees.py writes them there."""
+Each is at the end of a declaration of cpp_press_laws or cpp_spelling whose first clauses are written by hand: trees.py writes them
+there."""
 import re
 
 from cpp_trees import BELOW, BYTES, QUALIFIERS, SPELLED
@@ -176,7 +177,7 @@ def fitting(of):
     return " × ".join([*(f"({test})" if "≡" in test else test for test in tests), inner])
 
 def adding(of):
-    """The law that such a type, where it fits, adds its components."""
+    """The law that a type adds its components where it fits."""
     tests, slot = needed(of)
     text, fits = braced(of.parts[0].text), f"fits.{len(tests)}" if tests else "fits"
     inner = f"(adds {of.parts[1].tree}).at fit.as_type {slot} around allowed (place + length {text}) cs {fits}"

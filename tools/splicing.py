@@ -1,6 +1,5 @@
-"""Puts what a script writes into files by hand: from a file's text and the lines of a declaration to the text with these lines, below a line
-that says who writes them; and from templates/wrappers.txt what files by hand have for each wrapper (a letter before a type). trees.py
-calls it."""
+"""Puts what a script writes into hand-written files: the lines of a declaration, below a line that says who writes them; and, from
+templates/wrappers.txt, what these files have for each wrapper (a letter before a type). trees.py calls it."""
 import re
 import textwrap
 
@@ -21,7 +20,8 @@ def declared(text, name):
     return text.rfind("\n\n", 0, signature.start()) + 2, len(text.rstrip("\n")) if end < 0 else end
 
 def with_declarations(text, owns, mark=WRITTEN):
-    """The text, with these declarations: each where it is, or else after the one before, the first at the end."""
+    """The text, with these declarations: each where the text has it already, or else after the previous declaration, or at the end if it
+    is the first."""
     behind = len(text.rstrip("\n"))
     for own in owns:
         name = re.match(r"(?:pub )?(\S+) : ", own).group(1)
@@ -48,8 +48,8 @@ def with_requires(text, function, lines):
     return replaced(text, re.search(rf"\bfn {function}\(", text).end(), r"^ +ensures ", lines)
 
 def rewritten(text, name, lines):
-    """The text, with these lines as the clauses of a name, or the fields of a record: as all of them, if the comment above says who writes
-    them, and otherwise as those after the line that says so, up to a comment."""
+    """The text, with these lines as the clauses of a name, or the fields of a record. They replace all of these if the comment above says
+    who writes them, and otherwise those after the line that says so, up to a comment."""
     own = re.escape(name)
     signature = re.search(rf"^( *)(?:(?:unfoldable|abbrev|pub) )*{own} : |^()pub record {own} .*where$", text, re.M)
     assert signature, f"there is no {name}"
@@ -134,7 +134,7 @@ def with_numbers(text):
     return text
 
 def wrapper_edits():
-    """The path of each file by hand that has something for each wrapper, how its text changes, and which script changes it."""
+    """The path of each hand-written file that has something for each wrapper, how its text changes, and which script changes it."""
     yield NUMBERS, with_numbers, []
     # each section of the templates begins with its mark and the path of its file
     for mark, path, text in re.findall(r"^(===|\+\+\+|>>>) (.*)\n((?:(?!===|\+\+\+|>>>).*\n)*)", read(f"{TEMPLATES}/wrappers.txt"), re.M):

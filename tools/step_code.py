@@ -1,5 +1,5 @@
 """The code of cpp_link for what is done before the parts of a production, the facts that functions are called with, and the answers of
-the functions that forward productions without an arm, from the rows of grammar.py. trees.py writes it."""
+the functions that forward productions without an arm. All follow from the rows of grammar.py; trees.py writes them."""
 import re
 
 import grammar
@@ -28,9 +28,9 @@ def code(step):
     """What is done, in code."""
     return ITS_TYPES if step.text == "in its types" else said("steps", step.text, CODE) or made_step(step)
 
-# steps with code by hand: tests, packs, an M, and steps that the ABI's grammar doesn't have
+# steps with hand-written code: tests, packs, an M, and steps that the ABI's grammar doesn't have
 def is_by_hand(step):
-    """Whether a step has code by hand."""
+    """Whether a step has hand-written code."""
     return step.definition.split()[0] in ("tests", "holds", "unread", "quiet") or "packed(" in step.made
 
 def is_piece(step):
@@ -69,7 +69,8 @@ def others_than(function, found, functions):
     return by_hand + [production for before in ASKED[:ASKED.index(function)] for production in functions[before]]
 
 def asked():
-    """Each function that is called for other functions' remaining productions, and the facts that these have no arm for the production."""
+    """Each function that is called for other functions' remaining productions, and the facts that those functions have no arm for the
+    production."""
     found = steps()
     for function in ASKED:
         others = others_than(function, found, of_function(found))
@@ -121,8 +122,8 @@ def symbol(part):
 FLOWS = [(re.compile(r" \| ".join(said)), lemma) for *said, lemma in TABLE["flows"]]
 
 def flow(production, row, parts):
-    """How the candidates of a production flow, by its row: the lemma, with what it requires; nothing if the clause is by hand, or is
-    that of most productions."""
+    """How the candidates of a production flow, by its row: the lemma, with what it requires; nothing if the clause is written by
+    hand, or is that of most productions."""
     before = row.before[1] if len(row.before) == 2 and row.before[0] == "quiet" and row.onward == "quiet" else ""
     first, second = [*parts, "", ""][:2]
     lemma = next((lemma for pattern, lemma in FLOWS if pattern.fullmatch(f"{before} | {row.form} | {row.gain}")), "")

@@ -3,17 +3,16 @@
 
     symfilt_dask.py SCHEDULER LOG [SYMFILT [BYTES]] > FILTERED
 
-SCHEDULER is the address of the scheduler, as tcp://127.0.0.1:8786. Each worker reads its pieces of LOG itself, so the file
-is at the same path on each machine, and the program too. A piece has BYTES bytes (8 MiB), and goes on to the next newline.
-Debian has Dask's scheduler and workers in python3-distributed.
-"""
+SCHEDULER is the address of the scheduler, such as tcp://127.0.0.1:8786. Each worker reads its pieces of LOG itself, so the
+file and the program have to be at the same path on each machine. A piece has BYTES bytes (8 MiB), and continues to the
+next newline. Debian has Dask's scheduler and workers in python3-distributed."""
 import subprocess
 import sys
 from collections import deque
 
 from distributed import Client
 
-# pieces that are handed out or wait for those before them
+# how many pieces at a time are handed out or wait for those before them
 AT_ONCE = 64
 
 def filtered(path, start, end, symfilt):

@@ -46,7 +46,7 @@ def carried(lines):
 # ## Trees by what is computed of their subtrees
 
 def again(tree, parts, said):
-    """The tree again, over what its subtrees become."""
+    """The tree, built again over what its subtrees become."""
     return applied(said.get("made", "") + tree[0], [f"({parts[name]})" if name in parts else name for name, _ in tree[1:]])
 
 def equal(tree, facts, said):
@@ -60,7 +60,7 @@ def equal(tree, facts, said):
     constructor = f"(λ {' '.join(letters)}. {own})" if letters else braced(own)
     return applied("ap" if len(facts) == 1 else "both", [constructor, *(f"({fact})" for fact in facts.values())])
 
-# how what is computed from subtrees is joined to the value of the tree; and how facts are joined
+# how the values that are computed from subtrees are joined to the value of the tree; and how facts are joined
 OF_TREES = {"again": again, "equal": equal}
 JOINED = {"rewritten": rewritten, "rewritten alone": lambda facts: alone_or(facts, rewritten), "together": together}
 
@@ -116,7 +116,7 @@ def same_tree():
     return [*[same_clause("same_tree", tree[0], tests(tree)) for tree in TREES], "same_tree _ _ = false"]
 
 def equal_tree():
-    """The lemma that trees which `same_tree` finds the same are equal."""
+    """The lemma that two trees are equal if `same_tree` finds them the same."""
     lines = []
     for name, *given in TREES:
         facts = {1: ["h"], 2: ["(both h).0", "(both h).1"]}.get(len(given), [f"p.{i}" for i in range(len(given))])
@@ -134,7 +134,7 @@ def tree_itself():
 # ## Laws of their own
 
 def shut_parts(subtrees):
-    """The facts that subtrees are closed, as one."""
+    """The facts that subtrees are closed, joined into one fact."""
     return f"(or_parts {' '.join(f'(is_open {name})' for name in subtrees)} closed)"
 
 def closed_packs():
@@ -159,7 +159,7 @@ def reads():
 # ## What is inside
 
 def itself_as(tree, name):
-    """How a subtree may be a component itself: lists, pieces and names without their tags are none."""
+    """How a subtree may be a component itself: lists, pieces and names without their tags are no components."""
     said = dict(pair.split("=") for pair in BELOW["itself"].get(tree[0], "").split())
     return said.get(name, "" if dict(tree[1:])[name] == PIECE else "Itself")
 

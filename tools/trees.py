@@ -1,5 +1,5 @@
 """Writes the declarations that follow from the rows of C++'s trees, nodes and productions, from cpp_trees.py and grammar.py. Each is in a
-file by hand, in a paragraph that begins with a line that says that this script writes it."""
+hand-written file, in a paragraph whose first line says that this script writes it."""
 import re
 
 import cpp_trees
@@ -61,7 +61,7 @@ def declarations(crates):
     yield "cpp_link/proofs/CandidatesFlow.antt", "flows", step_code.flows()
 
 def edits(crates):
-    """What is written into files by hand: the path of each, how its text changes, and which script changes it."""
+    """What is written into hand-written files: the path of each, how its text changes, and which script changes it."""
     yield from ((path, rewritten, [name, lines]) for path, name, lines in declarations(crates))
     yield from splicing.wrapper_edits()
     yield from layouts.edits(crates)

@@ -5,7 +5,8 @@ names of crates.txt that no file of their crate has. Prints them, and ends with 
     tools/unreached.py [ROOT]
 
 Names are compared as words, so an unused definition isn't found if another one with its name is used. Rows and limits are left out: they
-are computed, and nothing uses them. A crate may have to list another one without naming it, if a clause of a lower crate mentions it: try."""
+are computed, and nothing uses them. A crate may have to list another crate that it doesn't name, if a clause of a lower crate mentions that
+crate: try it."""
 import os
 import re
 import sys
@@ -16,7 +17,7 @@ from files import lines_of_crates, read, sources
 DEFINED = re.compile(r"^(?:(?:abbrev|unfoldable|pub) )*([^\s:(){}\[\],;.=]+) : ", re.M)
 WORD = re.compile(r"[^\s(){}\[\],;.|λ↦=\"]+")
 END = re.compile(r"\n\n(?=\S)|\Z")
-# what the prover calls for, and rows
+# the files that the prover calls for, and those of rows
 LEFT_OUT = re.compile(r"(Answers|Invariants|Proof|Lib)\.antt$|(Rows?|Limits|Presses|KindNumbers)\.antt$|/Rows/")
 
 def words(text):
@@ -26,7 +27,7 @@ def words(text):
                    for word in WORD.findall(line))
 
 def unreached(crates):
-    """The definitions that no other paragraph names: a declaration goes on to a blank line before what isn't indented."""
+    """The definitions that no other paragraph names: a declaration ends at a blank line that a line without indentation follows."""
     texts, everywhere = {path: read(path) for path in sources(crates)}, Counter()
     for text in texts.values():
         everywhere.update(words(text))

@@ -77,7 +77,7 @@ def text_arms(group):
 
 def layout_texts():
     """The texts by their numbers, in code."""
-    # the first of the texts that are blanked has the number after
+    # BLANKED is the number before that of the first text that is blanked
     begins = {name.lower(): str(number - (name == "BLANKED")) for name, number in BEGINS.items()}
     return whole("cpp_layout/src/texts.rt", **begins, operators=len(words.OPERATORS),
                  constants=enumerate(name for name, _ in words.PLAIN_TEXTS),

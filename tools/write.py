@@ -1,5 +1,5 @@
 #!/usr/bin/env python3
-"""Writes every generated file, and every declaration that a script writes into a file by hand.
+"""Writes every generated file, and every declaration that a script writes into a hand-written file.
 
     tools/write.py [--check] [CRATES]
 
@@ -29,7 +29,7 @@ import spelled
 import trees
 from files import read, sources
 
-# The scripts that write. Each reads what those before it wrote, and trees.py also what those after it write.
+# The scripts that write. Each script reads what the scripts before it wrote, and trees.py also what the scripts after it write.
 SCRIPTS = {f"tools/{script.__name__}.py": script for script in (
     grammar, annotated, rust_grammar, marked, printing, family_code, short_names, part_words, spelled, file_table, short_ways, trees,
     rust_productions, alike)}
@@ -41,7 +41,7 @@ def written(crates):
         yield from ((name, path, text) for path, text in script.files(crates))
 
 def write_round(crates):
-    """Writes what differs, and returns the paths of what did."""
+    """Writes the files that differ, and returns their paths."""
     changed = []
     for script, path, text in written(crates):
         whole = f"{crates}/{path}"
@@ -63,7 +63,7 @@ def write_all(crates):
     sys.exit(f"{sys.argv[0]}: after {MOST_ROUNDS} rounds {', '.join(paths)} still change")
 
 def faults(crates):
-    """The files that differ from what the scripts write, and those that say wrongly that a script writes them."""
+    """The files that differ from what the scripts write, and the files that wrongly say that a script writes them."""
     own = {}
     for script, path, text in written(crates):
         found = read(f"{crates}/{path}", None)

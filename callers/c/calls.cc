@@ -1,5 +1,5 @@
-// What the calls of symdemangle.hpp answer; with -DOLDER over a library that doesn't know SYMDEMANGLE_WITHIN and SYMDEMANGLE_TYPES
-// (tests/callers/older.c).
+// What the calls of symdemangle.hpp answer; with -DOLDER, what they answer over a library that doesn't know SYMDEMANGLE_WITHIN and
+// SYMDEMANGLE_TYPES (tests/callers/older.c).
 #include "symdemangle.hpp"
 
 #include <iostream>

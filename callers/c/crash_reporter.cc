@@ -1,5 +1,5 @@
-// A crash reporter: where a program faults it prints the names of the functions that were running, from the signal's handler,
-// without malloc. It is linked with libsymdemangle_arena.a, and with -rdynamic so that its own functions have names.
+// A crash reporter: when a program faults, the reporter prints the names of the functions that were running, from within the signal's
+// handler and without malloc. It is linked with libsymdemangle_arena.a, and with -rdynamic so that its own functions have names.
 #include "symdemangle.h"
 #include "symdemangle_arena.h"
 

@@ -15,7 +15,7 @@ import (
 	"unsafe"
 )
 
-// Flags say how names are read and shown, added together.
+// Flags say how names are read and shown; several flags are added together.
 type Flags uint32
 
 const (
@@ -30,7 +30,7 @@ const (
 	KeepInline   Flags = C.SYMDEMANGLE_KEEP_INLINE   // with Short: inline namespaces stay, and different texts stay different
 )
 
-// Flags that the first library didn't know: a call that is refused for them is made again without them.
+// Flags that the first library didn't know: a call that is refused because of them is made again without them.
 const newer = Flags(C.SYMDEMANGLE_WITHIN) | Types | Short | KeepInline
 
 // DefaultLimit is what a text may cost where no other limit is named.
@@ -43,7 +43,7 @@ type Options struct {
 	Limit uint32 // 0 is DefaultLimit
 }
 
-// Error is why a name has no text, with how many bytes are before the first bad one.
+// Error says why a name has no text, and how many bytes precede the first bad byte.
 type Error struct {
 	Status uint32
 	Offset uint32
@@ -58,7 +58,7 @@ func (e *Error) Error() string {
 	return message
 }
 
-// Buffers of calls are kept, except large ones, so that a call needn't clear a new one.
+// Buffers of calls, except large ones, are kept so that a call needn't clear a new buffer.
 var buffers = sync.Pool{New: func() any { return new([]byte) }}
 
 const largestKept = 1 << 16
@@ -121,8 +121,8 @@ func (o Options) Text(name string) (string, error) {
 	})
 }
 
-// Filter is a text with each word that is a symbol replaced by its text. Words are those of the program demangle, or with ASCIIWords
-// those that end at bytes from 0x80; over a library that doesn't know such words, a word begins where a run of its letters does.
+// Filter is a text with each word that is a symbol replaced by its text. Words are those of the program demangle, or with ASCIIWords those
+// that end at bytes from 0x80. Over a library that doesn't know the words of demangle, a word begins where a run of its letters does.
 func (o Options) Filter(text string) (string, error) {
 	words := o.Flags &^ Types
 	if words&ASCIIWords == 0 {
@@ -133,9 +133,9 @@ func (o Options) Filter(text string) (string, error) {
 	})
 }
 
-// Part is a part of a text: what it is, as "base" or "generic_argument"; where it starts in the text; its own bytes; and where the bytes of
-// the name that spell it start and end. An underscore that was dropped counts. A part that the text doesn't have, as the hash of an older
-// Rust name, is at the text's end, with no bytes of it.
+// Part is a part of a text: what it is, such as "base" or "generic_argument"; where it starts in the text; its own bytes; and where the
+// bytes of the name that spell it start and end. These places count an underscore that was dropped. A part that the text doesn't have, such
+// as the hash of an older Rust name, is empty, at the text's end.
 type Part struct {
 	Role  string
 	Start int
@@ -144,8 +144,9 @@ type Part struct {
 	To    int
 }
 
-// Parsed is a text, what its name is, as "function", how the name is mangled ("itanium", "rust-v0", "rust-legacy"), and the parts of the
-// text in the order of their starts: of two parts, one is within the other, or they are apart. A newer library may tell more roles and kinds.
+// Parsed is a text, what its name is (such as "function"), how the name is mangled ("itanium", "rust-v0", "rust-legacy"), and the parts of
+// the text in the order of their starts. Any two parts are apart, or one is within the other. A newer library may report more roles and
+// kinds.
 type Parsed struct {
 	Text     string
 	Kind     string
@@ -181,8 +182,8 @@ func wordOf(word *C.char, number C.uint32_t) string {
 	return C.GoString(word)
 }
 
-// Parts is the text of a name with its parts, if it has one. Short texts and types have none: Short and Types are refused. An installed
-// library may be older than this call: a program that makes the call over it ends.
+// Parts is the text of a name with its parts, if it has one. Short texts and types have none: Short and Types are refused. If the installed
+// library is older than this call, the program ends when it makes the call.
 func (o Options) Parts(name string) (*Parsed, error) {
 	told := C.symdemangle_name{length: 4096, count: 32}
 	for {
@@ -213,7 +214,7 @@ func parsed(text string, found []C.symdemangle_part, told *C.symdemangle_name) *
 	return &Parsed{text, wordOf(C.symdemangle_kind(told.kind), told.kind), mangling, parts}
 }
 
-// Texts are the texts of many names, by one call of the library: for a name without a text, the name, and an error that says why.
+// Texts are the texts of many names, by one call of the library. A name without a text is given back as it is, with an error that says why.
 func (o Options) Texts(names []string) ([]string, []error) {
 	texts, errs := append([]string(nil), names...), make([]error, len(names))
 	if len(names) == 0 {

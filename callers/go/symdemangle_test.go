@@ -58,7 +58,7 @@ func TestLimit(t *testing.T) {
 }
 
 func TestNamesFromOutside(t *testing.T) {
-	// A<int, int>, A<that, that> and so on, which doubles 36 times
+	// A<int, int>, then A<T, T> with T the type before, and so on: the size doubles 36 times
 	name := "_Z1f1AIiiE"
 	for _, digit := range strings.Split("0123456789ABCDEFGHIJKLMNOPQRSTUVWXYZ", "") {
 		name += "S_IS" + digit + "_S" + digit + "_E"

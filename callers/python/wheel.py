@@ -27,7 +27,7 @@ import time
 import zipfile
 
 HERE = os.path.dirname(os.path.abspath(__file__))
-# The oldest glibc that a wheel may name so.
+# The oldest glibc that a wheel's name may have.
 OLDEST = 17
 # What a library is called in the package, by the first bytes of its file.
 NAMES = {b"\x7fELF": "libsymdemangle.so", b"MZ": "symdemangle.dll", b"\xcf\xfa\xed\xfe": "libsymdemangle.dylib"}
@@ -41,7 +41,7 @@ def number(library, at, size):
 
 
 def elf_platform(library):
-    """The machine of an ELF file, and the newest glibc 2.x that it asks for, if it asks for one."""
+    """The machine of an ELF file, and the newest glibc 2.x that the file requires, if it requires one."""
     machine = MACHINES[number(library, 18, 2)]
     asked = [int(minor) for minor in re.findall(rb"GLIBC_2\.(\d+)", library)]
     return f"manylinux_2_{max(OLDEST, *asked)}_{machine}" if asked else f"linux_{machine}"
@@ -60,7 +60,7 @@ PLATFORMS = dict(zip(NAMES.values(), (elf_platform, windows_platform, macos_plat
 
 
 def first_of(*names):
-    """The first one of these paths from this folder that exists."""
+    """The first of these paths, relative to this folder, that exists."""
     paths = [os.path.join(HERE, name) for name in names]
     for path in paths:
         if os.path.exists(path):
@@ -171,7 +171,7 @@ def make_sources(out):
     return path
 
 
-# What pip calls; both answer a file's name.
+# Called by pip; both functions return a file's name.
 def build_wheel(wheel_directory, config_settings=None, metadata_directory=None):
     return os.path.basename(make_wheel(compiled(), wheel_directory))
 

@@ -1,8 +1,8 @@
 // Compiles the library's C file, or links an installed archive, libsymdemangle.a.
 //
-// The C file is in csrc/ of a released crate, and in dist/ of the repository. With the feature `installed`, with SYMDEMANGLE_DIR, and
-// where there is no C file, the archive is linked: SYMDEMANGLE_DIR names its folder; where it isn't set, the folders in which packages
-// put it are looked through.
+// The C file is in csrc/ of a released crate, and in dist/ of the repository. With the feature `installed`, with SYMDEMANGLE_DIR, and where
+// there is no C file, the archive is linked. SYMDEMANGLE_DIR names its folder; if it isn't set, the folders in which packages put the
+// archive are searched.
 use std::env;
 use std::path::{Path, PathBuf};
 use std::process::exit;
@@ -36,7 +36,7 @@ fn compile(source: &Path) {
         println!("cargo:warning=symdemangle: Microsoft's compiler has no __int128, which the C file uses; build for x86_64-pc-windows-gnu");
     }
     let mut build = cc::Build::new();
-    // in debug builds too: without it a name takes several times as long; -O2 compiles for twice as long, and gains little
+    // optimized in debug builds too: otherwise a name takes several times as long; -O2 compiles for twice as long, and gains little
     build.opt_level(1);
     build.file(source.join("symdemangle.c")).include(source).warnings(false).compile("symdemangle");
 }

@@ -1,5 +1,5 @@
 // What __cxa_demangle answers in a program that has it from the C++ runtime or from callers/shims: both have the same conventions. Then the
-// program throws what nothing catches, and the runtime's terminate handler prints the name of its type.
+// program throws an exception that nothing catches, and the runtime's terminate handler prints the name of the exception's type.
 #include <cstdio>
 #include <cstdlib>
 #include <cstring>

@@ -1,4 +1,5 @@
-// Chromium without a window, driven by its own protocol over a pipe, and a server of a folder's files. It needs only Node.
+// Chromium without a window, driven by its own protocol over a pipe, and a server of a folder's files. This module needs Node and the
+// program `chromium`, and no package.
 import { spawn } from "node:child_process";
 import fs from "node:fs";
 import http from "node:http";
@@ -8,7 +9,7 @@ import path from "node:path";
 const KINDS = { ".html": "text/html", ".css": "text/css", ".js": "text/javascript", ".wasm": "application/wasm", ".json": "application/json", ".svg": "image/svg+xml", ".webmanifest": "application/manifest+json" };
 export const sleep = (ms) => new Promise((resolve) => setTimeout(resolve, ms));
 
-/** Serves a folder on this machine, until it is cut off; `asked` has the first line of each request. */
+/** Serves a folder on this machine, until it is cut off; `asked` has the method and the path of each request that wasn't cut off. */
 export async function serve(folder) {
     const asked = [];
     let isCutOff = false;
@@ -36,7 +37,7 @@ export class Browser {
     #process;
     #waiting = new Map();
     #last = 0;
-    /** Errors and warnings of the page's console, and exceptions that nothing caught. */
+    /** Errors in the browser's log of the page, and exceptions that nothing caught. */
     complaints = [];
 
     static async start() {
@@ -75,7 +76,7 @@ export class Browser {
         return new Promise((resolve, reject) => this.#waiting.set(id, { resolve, reject }));
     }
 
-    /** A call of the browser's protocol, of the page. */
+    /** Calls a method of the browser's protocol for the page. */
     call(method, params) {
         return this.#send(method, params, this.session);
     }
@@ -106,7 +107,7 @@ export class Browser {
         await this.call("Input.dispatchKeyEvent", { type: "keyUp", ...it });
     }
 
-    /** Chooses a file in the element of that type. */
+    /** Chooses a file in the first element that a CSS selector matches. */
     async choose(css, file) {
         const { root } = await this.call("DOM.getDocument");
         const { nodeId } = await this.call("DOM.querySelector", { nodeId: root.nodeId, selector: css });

@@ -1,9 +1,9 @@
 // node module.mjs PAGE_FOLDER ROWS DEMANGLE SYMBOLS: compares the page's module with the rows of check_rows, and with the program
 //
-// The module has to answer each row: the text at a limit of its cost, and that it is too long at one less; each refusal with its offset;
-// each pressed spelling; for each row `parts` what the name is, its text and the text's parts. Then the symbols of a file are filtered in
-// pieces of several sizes in each detail, and have to give the program's bytes. The page's words have to be the library's, and a text that
-// is filtered in pieces has to come out as the whole text does.
+// The module has to answer each row: the text at a limit of its cost, and that the text is too long at a limit of one less; each refusal
+// with its offset; each pressed spelling; for each row `parts` what the name is, its text and the text's parts. Then the symbols of a file
+// are filtered in pieces of several sizes in each detail, and have to give the program's bytes. The page's words have to be the library's,
+// and a text that is filtered in pieces has to come out as the whole text does.
 import { execFileSync } from "node:child_process";
 import fs from "node:fs";
 import path from "node:path";

@@ -3,9 +3,9 @@
 
     tools/portable/apart.py FROM.ll TO.ll
 
-The kit's copy of items (copy_bits) asks whether what it writes begins within what it reads. Nearly always it doesn't, and memmove
-copies; else a loop copies item by item. Here the copy calls a second function of the same text in the place of the loop, so that only
-the question and the two calls are inlined. It stops where copy_bits looks otherwise."""
+The kit's copy of items (copy_bits) asks whether what it writes begins within what it reads. Nearly always that isn't so, and memmove
+copies; otherwise a loop copies item by item. Here the copy calls a second function of the same text in the place of the loop, so that
+only the question and the two calls are inlined. The script stops if copy_bits has another form."""
 
 import re
 import sys

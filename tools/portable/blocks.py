@@ -79,7 +79,7 @@ class Blocks:
         return short
 
     def flush(self, lines, only_reads):
-        """Writes the values that wait to be used, or only those that read memory, before something is written there."""
+        """Writes the values that wait to be used, or only those that read memory, before something is written to memory."""
         pending = self.computing.pending
         for name in [name for name, it in pending.items() if it.reads or not only_reads]:
             it = pending.pop(name)
@@ -173,7 +173,7 @@ class Blocks:
 
     def way(self, label, target, after, outside, depth):
         """The way from a block to a target: its lines, and whether control goes on after them. `after` is the block that is written
-        next, `outside` the one after the switch that this is in."""
+        next, `outside` the one after the switch that contains the way."""
         lines = []
         self.moves(label, target, lines)
         if self.is_within(target, depth) and self.function.dominator[target] == label:

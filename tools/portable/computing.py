@@ -23,7 +23,8 @@ COUNTS = {"cttz", "ctlz", "ctpop"}
 
 
 class Computing:
-    """The texts of a function's instructions. `pending` are expressions of values that are used once, where they are used."""
+    """The texts of a function's instructions. `pending` has the expressions of values that are used once, to be written where
+    they are used."""
 
     def __init__(self, function, values, structs, tables):
         self.function, self.values, self.structs, self.tables = function, values, structs, tables
@@ -206,14 +207,14 @@ class Computing:
         return Expression(f"splat({one.at(POSTFIX)}.b[0])", WHOLE, reads=one.reads)
 
     def byte(self, operand):
-        """The byte at an address, as a text that can be read and set, and how tightly that binds."""
+        """The byte at an address, as a text that can be read and set, and how tightly this text binds."""
         base, distance = (self.operand(operand.of, "ptr"), operand.distance) if isinstance(operand, After) else (self.operand(operand, "ptr"), 0)
         if base.binds < POSTFIX:
             return f"*{further(base, distance).at(UNARY)}", UNARY
         return (f"{base.text}[{distance}]", POSTFIX) if distance else (f"*{base.text}", UNARY)
 
     def access(self, type_, align, aligned, any_):
-        """The call that reads or writes such a value: at an address that is a multiple of its size, or at any."""
+        """The call that reads or writes a value of this type: at an address that is a multiple of the value's size, or at any address."""
         if type_ == "ptr":
             return (aligned if align >= 8 else any_) + "p"
         width = bits(type_)

@@ -9,8 +9,8 @@ from operands import BITS_16, BITS_64, BYTES_16, BYTES_64, Number, Struct, bits,
 MOST_ZEROED = 128  # bytes that are made 0 without a call
 # How tightly C binds an expression.
 PRIMARY, POSTFIX, UNARY, TIMES, PLUS, SHIFT, ORDER, EQUAL, AND, XOR, OR, BOTH, EITHER, CHOICE = range(16, 2, -1)
-# The C type of an expression, beside 4, 8, 16 for an unsigned integer of that size in bytes: SMALL is an int that isn't negative,
-# SIGNED an integer with a sign; the others are an address, a struct and a double.
+# The C type of an expression: 4, 8 or 16 for an unsigned integer of that size in bytes, or one of these. SMALL is an int that isn't
+# negative, SIGNED an integer with a sign; the others are an address, a struct and a double.
 SMALL, SIGNED, POINTER, WHOLE, REAL = "small", "signed", "pointer", "whole", "real"
 SIZE = {SMALL: 0, 4: 4, 8: 8, 16: 16}
 SIGN = {"add": "+", "sub": "-", "mul": "*", "and": "&", "or": "|", "xor": "^", "shl": "<<", "lshr": ">>", "udiv": "/", "urem": "%"}
@@ -19,8 +19,9 @@ OPPOSITE = {"==": "!=", "!=": "==", "<": ">=", ">=": "<", ">": "<=", "<=": ">"}
 
 
 class Expression:
-    """A text of C. `bare` is it without its outermost cast, for a place that cuts it by itself; `opposite` is its negation, as text
-    and how tightly that binds; `reads` says whether it reads memory, so that it can't be moved past a write."""
+    """A text of C. `bare` is the text without its outermost cast, for a place that cuts it by itself; `opposite` is the negation,
+    as a text and how tightly that text binds; `reads` says whether the text reads memory, so that it can't be moved past a
+    write."""
 
     __slots__ = ("text", "type", "binds", "bare", "opposite", "reads")
 
@@ -28,7 +29,7 @@ class Expression:
         self.text, self.type, self.binds, self.bare, self.opposite, self.reads = text, type_, binds, bare, opposite, reads
 
     def at(self, binds):
-        """The text, in brackets where it binds less than that."""
+        """The text, in brackets if it binds less tightly than `binds`."""
         return self.text if self.binds >= binds else f"({self.text})"
 
     def stored(self):
@@ -66,7 +67,7 @@ class Structs:
         return f"z{size}({address})"
 
     def zeroings(self):
-        """The macros that such texts call."""
+        """The macros that the texts of `zeroing` call."""
         return "".join(f"#define z{size}(p) {zeroed(size)}\n" for size in sorted(self.zeroed))
 
     def zero(self, type_):
@@ -77,8 +78,8 @@ class Structs:
 
 
 def zeroed(size):
-    """The text that makes as many bytes at p 0: for more than 16 some writes, of which the last may begin within the one before it, since
-    gcc writes single words in a loop instead where it believes that a memset is seldom reached."""
+    """The text that makes this many bytes at p 0. More than 16 bytes take several writes, and the last may begin within the one before
+    it. They aren't a memset, since gcc writes single words in a loop for a memset that it believes is seldom reached."""
     if size <= 16:
         return f"memset(p,0,{size})"
     at, writes = 0, []
@@ -92,7 +93,7 @@ def zeroed(size):
 
 
 def held_bits(type_):
-    """How many bits the C type has that holds such an integer."""
+    """How many bits the C type that holds such an integer has."""
     return next(width for width in (8, 16, 32, 64, 128) if bits(type_) <= width)
 
 
@@ -126,7 +127,7 @@ def widened(it, type_):
 
 
 def cut(type_, it):
-    """What is left in the width of a type, where C's operation may have made more."""
+    """An expression, cut to the width of a type where C's operation may have made more."""
     width = bits(type_)
     if width in (8, 16):
         return Expression(f"(u{width}){it.at(UNARY)}", SMALL, UNARY, it.stored(), None, it.reads)
@@ -202,7 +203,7 @@ def negated(it):
 
 
 def comparison(condition, type_, one, other, constant):
-    """Whether one number or address is as the condition says to the other; `constant` is the other, if that is a number."""
+    """The comparison of two numbers or addresses by a condition; `constant` is the second operand, if that is a number."""
     sign = COMPARE[condition]
     if type_ == "ptr":
         left, right = one.at(SHIFT), other.at(SHIFT)
@@ -216,7 +217,7 @@ def comparison(condition, type_, one, other, constant):
             other = signed(type_, other)
         left, right = signed(type_, one).at(PLUS), other.at(PLUS)
     else:
-        # C compares an int with an unsigned number as unsigned ones, and warns of it
+        # C compares an int with an unsigned number as if both were unsigned, and compilers warn of that
         if one.type == SMALL and other.type != SMALL and one.binds < UNARY:
             one = cast("u32", one, 4)
         if other.type == SMALL and one.type != SMALL and other.binds < UNARY:

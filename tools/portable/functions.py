@@ -151,7 +151,7 @@ class Function:
         self.below = {label: [] for label in self.order}
         for label in self.order[1:]:
             self.below[last[label]].append(label)
-        # blocks that one block alone goes to are written within it
+        # blocks that only one block goes to are written within it
         self.nested = set()
         for label in self.order[1:]:
             ways = self.before[label]
@@ -168,7 +168,7 @@ class Function:
 
 
 def first_label(blocks):
-    """The name of a block without a label: the one name that phis have and no label."""
+    """The name of the block without a label: the only name that phis have and no label has."""
     named = {label for label, _ in blocks if label}
     phis = [line for _, body in blocks for line in body if " = phi " in line]
     others = {name for line in phis for name in re.findall(r', (%"[^"]*"|%[\w.$\-]+) \]', line)} - named
@@ -176,7 +176,7 @@ def first_label(blocks):
 
 
 def switch(line, lines):
-    """Its arms are lines of their own."""
+    """The arms of a switch are lines of their own."""
     type_, operand = line.typed()
     line.want(",", "label")
     targets, arms = [line.next()], []

@@ -8,14 +8,15 @@ from dataclasses import dataclass, field
 from operands import BITS_16, BITS_64, BYTES_16, BYTES_64, NOTHING, Array, stop
 
 ARITHMETIC = set("add sub mul and or xor shl lshr udiv urem ashr".split())
-# How many bytes a step of an address is for each type that it may count.
+# How many bytes a step of an address has, by the type whose values it counts.
 SIZES = {"i8": 1, "i16": 2, "i32": 4, "i64": 8, "ptr": 8, "i128": 16, "i1": 1}
 
 
 @dataclass
 class Instruction:
-    """A line of a function. `word` is the operation or the condition, `to` a second type, or `disjoint`, `number` an alignment, a place or a size,
-    `is_positive` says that a step leads further or that an operation on unsigned numbers loses no bits, `targets` where control goes on."""
+    """A line of a function. `word` is the operation or the condition; `to` is a second type, or `disjoint`; `number` is an alignment, a
+    place or a size; `is_positive` says that a step leads further or that an operation on unsigned numbers loses no bits; `targets` says
+    where control goes on."""
 
     name: str
     kind: str

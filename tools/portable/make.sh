@@ -3,11 +3,11 @@
 #
 #   tools/portable/make.sh OUT [TREE]
 #
-# TREE is another clone with the same crates, in which they are proved (`rt ci` there), if they aren't in this one; nothing is written
-# in it. The library and each program are proved once more over the checked libraries, and the LLVM module of what was proved is
-# optimised by the kit's clang, and written as C by to_c.py. OUT gets symdemangle.c, demangle.c, symfilt.c, the files of
-# tools/portable/dist, headers, man pages, licences, the rows, and MANIFEST: verdicts, the kit, the sum of the sources, and that of
-# each file. The same tree gives the same bytes. The three are made side by side, which takes some minutes and 4 GB.
+# TREE is another clone with the same crates, for when the crates are proved there (`rt ci`) and not in this one; nothing is written in
+# TREE. The library and each program are proved once more over the checked libraries, and the LLVM module of what was proved is optimised by
+# the kit's clang, and written as C by to_c.py. OUT gets symdemangle.c, demangle.c, symfilt.c, the files of tools/portable/dist, headers,
+# man pages, licences, the rows, and MANIFEST: verdicts, the kit, the sum of the sources, and that of each file. The same tree gives the
+# same bytes. The three C files are made side by side, which takes some minutes and 4 GB.
 #
 # MODULES=FOLDER takes the modules FOLDER/CRATE.ll instead, which nobody proved, for a trial; MANIFEST then says so.
 set -euo pipefail
@@ -25,10 +25,10 @@ work=$(mktemp -d)
 trap 'rm -rf "$work"' EXIT
 version=$(sed -n 's/^#define SYMDEMANGLE_VERSION_[A-Z]* \([0-9]*\)$/\1/p' callers/c/symdemangle.h | paste -sd .)
 
-# Inlined as by -O3 (250): with less the C takes more instructions, and with more the C compiler takes longer. INLINE is another number,
-# to measure with. Loops aren't unrolled, and all is optimised twice: the second time finds much that inlining left, so that the C has a
-# fifth fewer lines. Vectors aren't combined, since to_c.py knows the quarters of 64 bytes and no other parts. Without what is said of
-# x86-64 alone.
+# Functions are inlined as by -O3 (a threshold of 250): with less the C takes more instructions, and with more the C compiler takes longer.
+# INLINE is another threshold, to measure with. Loops aren't unrolled, and everything is optimised twice: the second time finds much that
+# inlining left, so that the C has a fifth fewer lines. Vectors aren't combined, since to_c.py knows the quarters of 64 bytes and no other
+# parts. Attributes that say something only of x86-64 are left out.
 optimise=(-O2 -fno-unroll-loops -fno-vectorize -fno-slp-vectorize -mllvm -disable-vector-combine -mllvm "-inline-threshold=${INLINE:-250}")
 OF_X86=' ?"(probe-stack|stack-probe-size|target-cpu|target-features|tune-cpu|frame-pointer)"(="[^"]*")?'
 

@@ -127,7 +127,7 @@ class Line:
                 stop(f"{word} wanted, {found} found: {self.whole[:300]}")
 
     def attributes(self):
-        """Passes attributes, and answers the alignment that they tell, or 1."""
+        """Passes attributes, and answers the alignment that they give, or 1."""
         align = 1
         while self.peek() in ATTRIBUTES:
             word = self.next()

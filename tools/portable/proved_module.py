@@ -4,7 +4,7 @@
     tools/portable/proved_module.py CRATE_FOLDER OUT.bc
 
 The crate is proved anew, over the checked libraries of those below it, and nothing is written in its folder. OUT.bc.proved gets
-the last line of that check. Of a crate that isn't proved rattle makes no module, so nothing is kept. The toolchain folder that
+the last line of that check. rattle makes no module of a crate that isn't proved, so nothing is kept. The toolchain folder that
 rattle is given is the kit's, except for a clang that copies its input, and compiles it without optimising, as only the copy is
 wanted."""
 
@@ -44,7 +44,8 @@ rtlib.Crate.stamp = stamp
 
 
 def is_proved(crate):
-    """Whether a library is of its files as they are: by the sum that `rt check` leaves with it, or else by times, as `rt ci` leaves none."""
+    """Whether a library was made of its files as they are. This is known by the sum that `rt check` leaves with it, or else by the times of
+    the files, as `rt ci` leaves no sum."""
     if crate.is_built():
         return True
     if not os.path.isdir(crate.rlib) or os.path.exists(f"{os.path.dirname(crate.rlib)}/stamp"):

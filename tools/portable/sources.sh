@@ -4,7 +4,7 @@
 #
 #   tools/portable/sources.sh [TREE]
 #
-# MANIFEST of dist/ has the sum of the tree that it was made of. It needs git, and no kit.
+# MANIFEST of dist/ has the sum of the tree that dist/ was made of. The script needs git, and no kit.
 set -euo pipefail
 cd "${1:-$(dirname "$0")/../..}"
 git ls-files -z -- crates crates.txt callers/archive callers/c tools/portable docs/demangle.1 docs/symfilt.1 'LICENSE-*' |

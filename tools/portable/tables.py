@@ -41,7 +41,7 @@ class Tables:
         return further(it, operand.distance)
 
     def table(self, line):
-        """The array of a line of the module, and whether it has addresses of others."""
+        """The array that a line of the module becomes, and whether the array has addresses of other tables or of functions."""
         found = re.match(rf"({NAME}) = (?:private |internal )?(?:unnamed_addr |local_unnamed_addr )?(constant|global) (.*)$", line)
         if not found:
             stop(f"table {line[:200]}")
@@ -129,7 +129,7 @@ def unescaped(text):
 
 
 def string(data):
-    """A string of C, in which no digit continues an escape and no trigraph is."""
+    """A string of C, in which no digit continues an escape and no trigraph occurs."""
     out = ""
     for at, byte in enumerate(data):
         if chr(byte) in '"\\?':

@@ -4,8 +4,8 @@
     tools/portable/to_c.py HEAD FROM.ll TO.c
 
 HEAD is a file that TO.c begins with. Functions keep the last part of their Rattle path with three digits of its sum; the whole
-path is in a comment above each, and of functions with the same text, which are written once, all paths. Integers are unsigned,
-and cut to their width wherever C's operation is wider; memory is read and written by the calls of prelude.c. It stops at an
+path is in a comment above each; functions with the same text are written once, with all their paths. Integers are unsigned, and
+cut to their width wherever C's operation is wider; memory is read and written by the calls of prelude.c. The program stops at an
 instruction, an intrinsic, a type or a table that it doesn't know.
 
 operands.py and instructions.py read lines, functions.py a function with its order of blocks; wide.py compares bytes together;
@@ -26,7 +26,7 @@ from operands import Line
 from tables import NAME, Tables
 from wide import widen
 
-# Which instance of a generic function a path is of: the digits after the function's name in C tell them apart.
+# Which instance of a generic function a path is of: the digits after the function's name in C tell the instances apart.
 INSTANCE = re.compile(r"::<#[0-9a-f]+>")
 
 
@@ -54,8 +54,8 @@ class Module:
 
 
 def function_names(module, tables):
-    """The Rattle path of each function, by its name in C. What is called of C gets a prefix, and so does main: port.c has the former,
-    and calls the latter."""
+    """The Rattle path of each function, by its name in C. Functions of C that are called get a prefix, and so does main: port.c has
+    these functions, and calls main."""
     paths = {}
     for lines in module.functions:
         of = re.search(NAME, lines[0])[0]
@@ -72,7 +72,7 @@ def function_names(module, tables):
 
 
 def prototype(line, structs, tables):
-    """The declaration of what the module calls of C."""
+    """The declaration of a function of C that the module calls."""
     head = Line(re.sub(r"^declare ", "", line))
     head.attributes()
     result = structs.c_type(head.type())
@@ -123,7 +123,7 @@ class Definition:
 
 
 def merged(definitions, tables):
-    """The functions without those that have the text of another one, and the tables with the names of those that stay."""
+    """The functions without those that have the text of another function, and the tables with the names of the remaining functions."""
     while True:
         kept, names = {}, {}
         for it in definitions:

@@ -8,7 +8,8 @@ from typing import NamedTuple
 
 from operands import Address, Cast, Name, Nothing, Number, Parts, Splat, bits, signed
 
-# Where an array of no bytes is: an address that no object has, so that a compiler sees none that could be freed. Nothing is read there.
+# The address of an array of no bytes. No object has this address, so a compiler sees no object there that could be freed. Nothing is read
+# there.
 NO_BYTES = Cast("inttoptr", Number(1 << 16), "i64")
 
 # Words of C, of the prelude, and macros that some compilers define.
@@ -97,7 +98,7 @@ class Values:
         return alias
 
     def resolved(self, operand):
-        """An operand without the names that only denote another."""
+        """The operand, or what it denotes if it is a name that only denotes another value."""
         if isinstance(operand, Name) and operand.name in self.aliases:
             return self.aliases[operand.name]
         return operand

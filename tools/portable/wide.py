@@ -31,7 +31,7 @@ class Pair(NamedTuple):
     addresses: tuple
 
     def group(self):
-        """What pairs have in common that may lie beside each other."""
+        """What pairs that may lie beside each other have in common."""
         return self.one[:2], self.other[:2], self.one.distance - self.other.distance
 
 
@@ -57,7 +57,7 @@ class Widening:
 
     def run(self):
         for label, block in self.function.blocks.items():
-            # an `or` that isn't part of another one comes after those that are
+            # an `or` that isn't part of another `or` comes after the `or`s that are
             for root in [it for it in reversed(block) if is_or(it)]:
                 if root.name not in self.inner:
                     self.function.blocks[label] = self.widened(self.function.blocks[label], root)
@@ -65,7 +65,7 @@ class Widening:
             self.drop_unused()
 
     def widened(self, block, root):
-        """The block with what an `or` joins compared by more bytes at once."""
+        """The block, with the operands that an `or` joins compared several bytes at once."""
         at = block.index(root)
         since = max((place for place in range(at) if writes(block[place])), default=-1)
         near = {it.name: it for it in block[since + 1 : at] if it.name}
@@ -90,7 +90,7 @@ class Widening:
         return [*block[:at], *more, *block[at:]]
 
     def joined(self, root, near):
-        """What an `or`, and those that it alone uses, join."""
+        """The operands that are joined by an `or`, and by other `or`s that only this one uses."""
         found, open_ = [], list(root.operands)
         while open_:
             operand = open_.pop()
@@ -103,7 +103,7 @@ class Widening:
         return found
 
     def pair(self, operand, near):
-        """The two bytes whose difference an operand is, if it is that."""
+        """The two bytes, if an operand says whether they differ."""
         it = near.get(operand.name) if isinstance(operand, Name) else None
         if not it or it.kind != "comparison" or it.type != "i8" or it.word != "ne" or self.uses[it.name] != 1:
             return None

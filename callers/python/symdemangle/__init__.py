@@ -13,11 +13,11 @@
 Traceback (most recent call last):
 symdemangle.Refused: malformed symbol at 4
 
-Each call takes the same options: `brief` leaves out template and generic arguments, `no_parameters` what follows a C++ function's
-name, `wide=False` reads the ABI's first grammar alone, `legacy=False` Rust's older names as names of C++, `types` reads a name that
-doesn't begin like a symbol as a C++ type (`PKc`), `short` leaves out what the templates of std have by default, and its inline
-namespaces unless `keep_inline` is given, and `limit`, from 0 to 4294967295, is what a text may cost. Names are strings or bytes;
-where they aren't UTF-8, strings have them as surrogates, as file names in Python.
+Each call takes the same options: `brief` leaves out template and generic arguments; `no_parameters` leaves out what follows a C++
+function's name; `wide=False` reads only the ABI's first grammar; `legacy=False` reads Rust's older names as names of C++; `types` reads
+a name that doesn't begin like a symbol as a C++ type (`PKc`); `short` leaves out what the templates of std have by default, and std's
+inline namespaces unless `keep_inline` is given; `limit`, from 0 to 4294967295, is what a text may cost. Names are strings or bytes;
+bytes that aren't UTF-8 are surrogates in strings, as in Python's file names.
 
 A call takes up to 600 bytes of memory for a byte of the name, and `press` 750 (measured), whatever the limit. So cut names that someone
 else chose: 4,096 bytes hold nearly all real ones.
@@ -73,7 +73,7 @@ _NEWER = _WITHIN | _TYPES | _SHORT | _KEEP_INLINE
 
 
 class Refused(ValueError):
-    """A name that has no text: why, and how many bytes are before the first bad one."""
+    """Why a name has no text, and how many bytes of the name are before its first bad byte."""
 
     def __init__(self, status: int, offset: int) -> None:
         self.status = status
@@ -91,9 +91,9 @@ class Counts(NamedTuple):
 
 
 class Part(NamedTuple):
-    """A part of a text: what it is, as "base" or "generic_argument", where it starts in the text, how many bytes it has, where the bytes of
-    the name that spell it start and end, and the part's own text. The name is as it was given: an underscore that
-    was dropped counts. A part that the text doesn't have, as the hash of an older Rust name, is at the text's end, and has no bytes of it."""
+    """A part of a text: what it is, such as "base" or "generic_argument"; where it starts in the text; how many bytes it has; where the
+    bytes of the name that spell it start and end; and the part's own text. The name is as it was given: an underscore that was dropped
+    counts. A part that the text doesn't have, such as the hash of an older Rust name, is at the text's end, with a length of 0."""
 
     role: str
     start: int
@@ -104,8 +104,9 @@ class Part(NamedTuple):
 
 
 class Parsed(NamedTuple):
-    """A text, what its name is, as "function", how the name is mangled ("itanium", "rust-v0", "rust-legacy"), and the parts of the text in
-    the order of their starts: of two parts, one is within the other, or they are apart. A newer library may tell more roles and kinds."""
+    """A text, what its name is (such as "function"), how the name is mangled ("itanium", "rust-v0", "rust-legacy"), and the parts of the
+    text in the order of their starts. Two parts are either apart or one within the other. A newer library may report more roles and
+    kinds."""
 
     text: str
     kind: str
@@ -123,12 +124,12 @@ class Parsed(NamedTuple):
 
     @property
     def scope(self) -> str:
-        """What the name is in."""
+        """The scope that the name is in."""
         return self.of("scope")
 
 
 class Tally(NamedTuple):
-    """Of a text's words that begin like symbols: how many there are, how many were replaced by a text, and how many weren't."""
+    """How many of a text's words begin like symbols, how many of these were replaced by a text, and how many weren't."""
 
     words: int
     replaced: int
@@ -138,8 +139,9 @@ class Tally(NamedTuple):
 @dataclass(frozen=True)
 class Options:
     """How names are read and shown. With `types` a name that doesn't begin like a symbol is read as a C++ type. The words of a filtered
-    text are those of the program `demangle`; with `within=False` those of `symfilt`, which begin where a run does; with `ascii_words` these,
-    ended at bytes from 0x80. A library that is older than `types`, `within` and `short` is asked without them."""
+    text are those of the program `demangle`. With `within=False` they are those of `symfilt`, which begin where a run does; with
+    `ascii_words` they are those of `symfilt`, but end at bytes from 0x80. A library that is older than `types`, `within` and `short` is
+    called without them."""
 
     brief: bool = False
     no_parameters: bool = False
@@ -172,11 +174,11 @@ class Options:
 
     @property
     def words(self) -> int:
-        """The flag of the words of a filtered text, 0 where there is none."""
+        """The flag that says how words of a filtered text are found; 0 for the words of `symfilt`."""
         return _ASCII_WORDS if self.ascii_words else _WITHIN if self.within else 0
 
 
-# The options that were asked for last.
+# The options of recent calls.
 _known_options = lru_cache(64, typed=True)(Options)
 
 
@@ -203,7 +205,7 @@ class _Tally(ctypes.Structure):
     _fields_ = [("words", ctypes.c_uint64), ("replaced", ctypes.c_uint64), ("refused", ctypes.c_uint64)]
 
 
-# The file names of the library: of one that a wheel brings, and of an installed one.
+# The file names of a library that a wheel brings, and of an installed one.
 _FILES = {
     "win32": ("symdemangle.dll", "symdemangle.dll"),
     "darwin": ("libsymdemangle.dylib", "libsymdemangle.0.1.dylib"),
@@ -211,7 +213,7 @@ _FILES = {
 
 
 def _load() -> ctypes.CDLL:
-    """The library of SYMDEMANGLE_LIBRARY, that which the wheel brought, or the installed one."""
+    """The library of SYMDEMANGLE_LIBRARY, the one that the wheel brought, or the installed one."""
     brought, installed = _FILES.get(sys.platform, ("libsymdemangle.so", "libsymdemangle.so.0.1"))
     own = os.path.join(os.path.dirname(__file__), brought)
     library = ctypes.CDLL(os.environ.get("SYMDEMANGLE_LIBRARY") or (own if os.path.exists(own) else installed))
@@ -251,7 +253,7 @@ def _asked(options: Keywords) -> Options:
 
 
 def _bytes(given: Name, argument: str) -> bytes:
-    """The bytes of a name or text. Raises UnicodeEncodeError for a string without bytes, as half of a surrogate pair."""
+    """The bytes of a name or text. Raises UnicodeEncodeError for a string without bytes, such as half of a surrogate pair."""
     if isinstance(given, str):
         return given.encode("utf-8", "surrogateescape")
     return _given_bytes(given, argument, "str or bytes")
@@ -289,19 +291,19 @@ def _told(call: Callable[[int], int], flags: int) -> int:
 
 
 def _address(of: Union[bytearray, array[int]]) -> int:
-    """Where a buffer begins. An array type of its own for each length, as ctypes makes one, takes longer than a call."""
+    """Where a buffer begins. Making an array type for each length, as ctypes does, takes longer than a call."""
     return ctypes.addressof(ctypes.c_char.from_buffer(of))
 
 
 class _Room:
-    """A buffer that calls write texts to, and what they tell of them."""
+    """A buffer that calls write texts to, and the result that they report with a text."""
 
     def __init__(self, size: int) -> None:
         buffer = bytearray(size)
         self.size = size
         self.view = memoryview(buffer)
         self.result = _Result()
-        # as the calls take them
+        # as arguments of the calls
         self.at = _address(buffer)
         self.told = ctypes.byref(self.result)
 
@@ -464,7 +466,7 @@ _WITHOUT_BYTES = re.compile("([\ud800-\udc7f\udd00-\udfff]+)")
 
 
 def filter_text(text: Name, **options: Unpack[Keywords]) -> str:
-    """Likewise for a string. A character without bytes, as half of a surrogate pair, belongs to no word."""
+    """Likewise for a string. A character without bytes, such as half of a surrogate pair, belongs to no word."""
     asked = _asked(options)
     try:
         return _string(_filtered(_bytes(text, "text"), asked)[0])
@@ -475,8 +477,8 @@ def filter_text(text: Name, **options: Unpack[Keywords]) -> str:
 
 
 def filter_stream(source: BinaryIO, sink: BinaryIO, **options: Unpack[Keywords]) -> Tally:
-    """Writes what a source gives to a sink, with each word that is a symbol replaced by its text, as soon as whole words are there.
-    It holds one piece of the source, and a run of up to 131,072 bytes."""
+    """Writes what a source gives to a sink, with each word that is a symbol replaced by its text, as soon as whole words have been
+    read. It holds one piece of the source, and a run of up to 131,072 bytes."""
     asked, total = _asked(options), Tally(0, 0, 0)
 
     def filtered(text: bytes) -> bytes:
@@ -509,8 +511,8 @@ def _word(word: Callable[[int], Union[bytes, None]], number: int) -> str:
 
 
 def parts(name: Name, **options: Unpack[Keywords]) -> Parsed:
-    """The text of a name with its parts; Refused says why it has none. Short texts and types have no parts. NotImplementedError over a
-    library that is older than this call."""
+    """The text of a name with its parts; Refused says why it has none. Short texts and types have no parts. Raises NotImplementedError
+    if the library is older than this call."""
     given, asked, told = _name(name), _asked(options), _Name()
     call = getattr(_library, "symdemangle_parts", None)
     if call is None:
@@ -543,7 +545,7 @@ def parts(name: Name, **options: Unpack[Keywords]) -> Parsed:
 
 def press(name: Name, *, wide: bool = False) -> str:
     """The spelling of a name in which each part that repeats is a reference, so that different spellings of the same symbol become
-    equal; Refused says why there is none. With `wide` newer and rarer C++ forms are spelled, too, as far as they have a spelling."""
+    equal; Refused says why there is none. With `wide`, newer and rarer C++ forms are spelled, too, if they have a spelling."""
     given = _name(name)
     flags = _UNDERSCORE | (_WIDE if wide else 0)
     return _string(_written(lambda flags, *buffer: _library.symdemangle_press(given, len(given), flags, *buffer), flags))

@@ -1,4 +1,5 @@
-"""Names, or standard input where there are none, with each word that is a symbol replaced by its text, as the program demangle does."""
+"""Prints the given names, or standard input if none are given, with each word that is a symbol replaced by its text, as the program
+demangle does."""
 
 import argparse
 import os
@@ -6,7 +7,7 @@ import sys
 
 from . import DEFAULT_LIMIT, Options, Refused, __version__, filter_bytes, filter_stream, try_demangle
 
-# The status when the reader has gone: the one that a shell reports for a program that SIGPIPE ends.
+# The exit status when the reader has gone: what a shell reports for a program that SIGPIPE ends.
 READER_GONE = 141
 
 
@@ -33,7 +34,7 @@ def arguments() -> argparse.Namespace:
 
 
 def answer(name: bytes, types: bool, options: dict) -> bytes:
-    """A name's line: that of a type, or the name filtered."""
+    """The line for a name: the text of a type, or the name filtered."""
     if types:
         try:
             return os.fsencode(try_demangle(name, types=True, **options))

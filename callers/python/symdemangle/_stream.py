@@ -1,4 +1,4 @@
-"""Streams that are filtered in pieces: the bytes are those of the whole text filtered at once."""
+"""Streams that are filtered in pieces: the bytes that are written are those of the whole text filtered at once."""
 
 from __future__ import annotations
 
@@ -9,7 +9,7 @@ from typing import Callable
 # The library leaves longer words as they are.
 LONGEST_WORD = 65_536
 
-# The class of a byte, for cuts: in a run, the first of an escape, within the escape of a colour, or none of these.
+# The class of a byte, for cuts: a byte in a run, the first byte of an escape, a byte within the escape of a colour, or none of these.
 _RUN, _ESCAPE, _COLOUR, _BREAK = b"a", b"\\", b";", b" "
 
 
@@ -31,20 +31,20 @@ def _kinds(within: bool, ascii_words: bool) -> bytes:
 _ESCAPES = re.compile(
     rb"(?:\x1b|\\e|\\033|\\x1[bB]|\\u001[bB])\[[0-9;:]*[A-Za-z]|\\[nrt]|\\u[0-9A-Fa-f]{4}|\\x[0-9A-Fa-f]{2}"
 )
-# The underscore with which a word may begin: where words begin within runs, and where each run is a word.
+# The underscore with which a word may begin: one pattern where words begin within runs, and one where each run is a word.
 _WITHIN = re.compile(rb"(?<![A-Za-z0-9_])_")
 _AT_ONCE = re.compile(rb"\A_")
 _ASCII = bytes(range(128))
 
 
 def _short(run: bytes) -> bytes:
-    """A few bytes in place of a run in which no word may begin: words after them begin as after the run."""
+    """A few bytes that replace a run in which no word may begin: after them, a word begins just as it would after the run."""
     stretch = run[len(run.rstrip(_ASCII)) :]
     return stretch[:1] + b"a" + stretch[-1:] if stretch else run[-1:]
 
 
 class Pieces:
-    """Takes a stream piece by piece, and writes what each piece completes. It holds at most one piece, and a run of up to twice the
+    """Takes a stream piece by piece, and writes what each piece completes. Holds at most one piece, and a run of up to twice the
     longest word."""
 
     def __init__(self, filtered: Callable[[bytes], bytes], write: Callable[[bytes], object], within: bool, ascii_words: bool) -> None:
@@ -56,7 +56,8 @@ class Pieces:
         self._passes = False  # whether the rest of a run goes out as it is
 
     def push(self, piece: bytes) -> None:
-        """Takes a piece. It is cut where no escape can be open: after a byte outside escapes, or before the first of an escape."""
+        """Takes a piece. The piece is cut where no escape can be open: after a byte outside escapes, or before the first byte of an
+        escape."""
         if self._passes:
             piece = self._pass(piece)
         kinds, at = piece.translate(self._kinds), len(self._held)
@@ -82,7 +83,7 @@ class Pieces:
             self._written = 0
 
     def _pass(self, piece: bytes) -> bytes:
-        """Writes the front of a piece that belongs to the run before it; answers the rest."""
+        """Writes the bytes at the front of a piece that belong to the run before it; answers the rest."""
         rest = piece.translate(self._kinds).lstrip(_RUN)
         if rest:
             self._passes = False
@@ -91,7 +92,8 @@ class Pieces:
         return piece[front:]
 
     def _cut_run(self) -> None:
-        """Writes what no word of a long run can need: up to where one may begin, or all where that would be too long."""
+        """Writes what no word of a long run can need: the bytes before the place where a word may begin, or all bytes
+        where the word would be too long."""
         escape = _ESCAPES.match(self._held)
         self._filter(escape.end() if escape else 0)
         self._filter(len(self._held.translate(self._kinds).rstrip(_RUN)))

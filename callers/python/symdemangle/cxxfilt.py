@@ -1,4 +1,4 @@
-"""The calls of the package cxxfilt over this library: from symdemangle import cxxfilt"""
+"""The functions of the package cxxfilt, built on this library: from symdemangle import cxxfilt"""
 
 from . import Refused, try_demangle
 
@@ -6,8 +6,8 @@ InvalidName = Refused
 
 
 def demangle(mangled_name: str, external_only: bool = True) -> str:
-    """The text of a symbol, or of a type if not external_only; the name itself if it doesn't begin like a C++ symbol. InvalidName says why
-    another name has no text."""
+    """The text of a symbol, or of a type if not external_only; the name itself if it doesn't begin like a C++ symbol. For any other name
+    without a text, InvalidName says why it has none."""
     if external_only and not mangled_name.startswith("_Z"):
         return mangled_name
     return try_demangle(mangled_name, types=not external_only)

@@ -1,4 +1,4 @@
-"""What the package answers: python3 calls.py [older], where it is installed; older: over tests/callers/older.c"""
+"""Tests of what the package answers: python3 calls.py [older], run where the package is installed; older: over tests/callers/older.c"""
 
 import doctest
 import io
@@ -210,7 +210,7 @@ class Calls(unittest.TestCase):
         self.assertEqual(streamed(b"", 1), (b"", Tally(0, 0, 0)))
 
     def test_streams_in_pieces(self):
-        """However a text is cut, its filtered bytes are those of the whole."""
+        """However a text is cut into pieces, the filtered bytes are those of the whole text."""
         numbers = random.Random(1)
         parts = [
             b"_Z1fv", b"_RNvC3foo3bar", b"__Z1fv", b"_Z1fY", b".text.", b"\n", b" ", b"\\n", b"\\", b"\\u001b[", b"\x1b[31;1m", b"\x1b",

@@ -1,9 +1,9 @@
 //! Mangled C++ (Itanium ABI 5.1) and Rust (RFC 2603, v0, and the older mangling) names: their texts within a limit on what a text costs, the work that
 //! reading one takes, and their pressed spelling, by a proved library.
 //!
-//! A name that begins with `_R` is read as Rust, one that begins with `_Z` as C++, or as Rust where it is `_ZN..17h<16 digits>E`;
-//! an underscore may be before either, as on macOS.
-//! Names in a symbol are bytes, so texts are bytes too; a name that shows itself has U+FFFD for bytes that aren't UTF-8.
+//! A name that begins with `_R` is read as Rust, one that begins with `_Z` as C++, or as Rust where it is `_ZN..17h<16 digits>E`; an
+//! underscore may precede either, as on macOS. Names in a symbol are bytes, so texts are bytes too; a name that shows itself has U+FFFD for
+//! bytes that aren't UTF-8.
 //!
 //! A call takes up to 600 bytes of memory for a byte of the name, and [`press_into`] 750 (measured), whatever the limit. So names that someone
 //! else chose should be cut: 4,096 bytes hold nearly all real ones.
@@ -21,8 +21,8 @@
 //! # The library
 //!
 //! The crate brings the library as one C file and compiles it. With the feature `installed` it links `libsymdemangle.a` instead;
-//! `SYMDEMANGLE_DIR` names its folder where that isn't a usual one. The feature `unlinked` does neither, to check or to document
-//! code without a library. The crate needs `alloc` and not `std`.
+//! `SYMDEMANGLE_DIR` names the library's folder where that folder isn't a usual one. The feature `unlinked` does neither, to check or to
+//! document code without a library. The crate needs `alloc` and not `std`.
 //!
 //! # Coming from `rustc-demangle`
 //!
@@ -33,10 +33,10 @@
 //! | `Demangle::as_str` | [`Demangle::as_str`] |
 //! | `demangle_line(..)` | [`filter_into`] |
 //!
-//! `{:#}` leaves out hashes there, and so it does here: of v0 symbols (`_R..`) no text shows the hash of a crate, so both forms
-//! are the same; of Rust's older mangling (`_ZN..17h..E`) `{}` shows the last name, `::h` and 16 digits, and `{:#}` doesn't.
-//! What differs: C++ symbols are shown too; symbols without their underscore (`ZN..`, `R..`) aren't taken; a constant is shown without its type in both forms;
-//! a suffix as `.llvm.42` is shown, in brackets.
+//! `{:#}` leaves out hashes in both crates: no text of a v0 symbol (`_R..`) shows the hash of a crate, so both forms are the same; for
+//! Rust's older mangling (`_ZN..17h..E`) `{}` shows the last name, `::h` and 16 digits, and `{:#}` doesn't. What differs: C++ symbols are
+//! shown too; symbols without their underscore (`ZN..`, `R..`) aren't taken; a constant is shown without its type in both forms; a suffix
+//! such as `.llvm.42` is shown, in brackets.
 //!
 //! ```
 //! let older = symdemangle::demangle("_ZN13_$LT$test$GT$5panic17h0123456789abcdefE");
@@ -62,10 +62,10 @@ pub use words::{NameKind, Role};
 /// What a text may cost by default: its bytes, and 1 for each item that it is put together from.
 pub const DEFAULT_LIMIT: u32 = 1_000_000;
 
-/// Why a name has no answer. `at` is the number of bytes before the first bad one.
+/// Why a name has no answer. `at` is the number of bytes before the first bad byte.
 #[derive(Clone, Copy, Debug, PartialEq, Eq, Hash)]
 pub enum Error {
-    /// No symbol has this byte there.
+    /// No symbol has this byte at this place.
     Malformed {
         /// Its offset.
         at: u32,
@@ -90,8 +90,8 @@ pub enum Error {
     NoSymbol,
     /// The symbol is read, and has no pressed spelling yet.
     NoSpelling,
-    /// The library that was linked is older than an option that was asked for. No option of this version gives this error: over a library
-    /// that doesn't know [`Options::within`] or [`Options::types`], calls do without these.
+    /// The library that was linked is older than a requested option. No option of this version gives this error: over a library that
+    /// doesn't know [`Options::within`] or [`Options::types`], calls do without these options.
     OlderLibrary,
 }
 
@@ -153,9 +153,9 @@ impl Options {
         Options { brief, ..self }
     }
 
-    /// Shortens C++ names: leaves out what the templates of `std` have by default and its inline namespaces, and writes usual names, as
-    /// `std::string`. Different names may have one short text. The limit is that of the whole text. Over a library that is older than
-    /// this option texts are whole.
+    /// Shortens C++ names: leaves out what the templates of `std` have by default and `std`'s inline namespaces, and writes usual names,
+    /// such as `std::string`. Different names may have one short text. The limit is that of the whole text. Over a library that is older
+    /// than this option texts are whole.
     pub const fn short(self, short: bool) -> Options {
         Options { short, ..self }
     }
@@ -170,14 +170,14 @@ impl Options {
         Options { no_parameters, ..self }
     }
 
-    /// Reads newer and rarer C++ forms, too. What has a text without it has the same text with it, at the same cost; a later
-    /// version may read more.
+    /// Reads newer and rarer C++ forms, too. A name that has a text without this option has the same text with it, at the same cost; a
+    /// later version may read more.
     pub const fn wide(self, wide: bool) -> Options {
         Options { wide, ..self }
     }
 
-    /// Shows Rust's older names (`_ZN..17h<16 digits>E`) as the Rust paths that they denote, and not as names of C++, which they are,
-    /// too. No text of any other name changes.
+    /// Shows Rust's older names (`_ZN..17h<16 digits>E`) as the Rust paths that they denote, and not as names of C++, which they also are.
+    /// No text of any other name changes.
     pub const fn legacy(self, legacy: bool) -> Options {
         Options { legacy, ..self }
     }
@@ -189,12 +189,13 @@ impl Options {
     }
 
     /// Finds the words of a text as the program `demangle` does, also within runs: in the names of sections, in typographic quotes, after
-    /// escapes. It is the default. Else, and over a library that is older than this option, a word begins where a run of its letters does.
+    /// escapes. This is the default. Otherwise, and over a library that is older than this option, a word begins where a run of its letters
+    /// does.
     pub const fn within(self, within: bool) -> Options {
         Options { within, ..self }
     }
 
-    /// Begins words where runs do, and ends them at bytes from 0x80, where a text is filtered: in place of [`Options::within`].
+    /// Where a text is filtered, begins words where runs do and ends them at bytes from 0x80: in place of [`Options::within`].
     pub const fn ascii_words(self, ascii_words: bool) -> Options {
         Options { ascii_words, ..self }
     }
@@ -204,14 +205,14 @@ impl Options {
         Options { limit, ..self }
     }
 
-    /// A name that shows itself by these options; a name without a text shows as it is.
+    /// A name that shows its text by these options, or itself if it has no text.
     #[must_use]
     pub fn demangle(self, name: &str) -> Demangle<'_> {
         let text = self.text(name.as_bytes()).ok();
         Demangle { name, text }
     }
 
-    /// The bytes of a name's text, or of the name where it has none: for names that may be no UTF-8.
+    /// The bytes of a name's text, or of the name where it has none: for names that may not be UTF-8.
     #[must_use]
     pub fn demangle_bytes(self, name: &[u8]) -> Cow<'_, [u8]> {
         self.text(name).map_or(Cow::Borrowed(name), Cow::Owned)
@@ -235,14 +236,13 @@ impl Options {
     }
 }
 
-/// A name with its text, if it has one, by [`Options::default`]: it shows itself, and a name without a text shows as it is.
+/// A name that shows its text by [`Options::default`], or itself if it has no text.
 #[must_use]
 pub fn demangle(name: &str) -> Demangle<'_> {
     Options::default().demangle(name)
 }
 
-/// The bytes of a name's text, or of the name where it has none, by [`Options::default`]: for names that may be no UTF-8, which names of
-/// C++ may be.
+/// The bytes of a name's text, or of the name where it has none, by [`Options::default`]: for names that may not be UTF-8, as in C++.
 ///
 /// ```
 /// assert_eq!(*symdemangle::demangle_bytes(b"_Z2f\xffv"), *b"f\xff()");
@@ -262,7 +262,7 @@ pub fn try_demangle(name: &str) -> Result<Demangle<'_>, Error> {
     Options::default().try_demangle(name)
 }
 
-/// A name that shows itself by its text, or as it is where it has none.
+/// A name that shows its text, or itself if it has no text.
 ///
 /// `{:#}` is `{}` without the hash at the end of Rust's older mangling. Texts of v0 symbols have none. `{:?}` is `{}`.
 #[derive(Clone, PartialEq, Eq, Hash)]
@@ -278,7 +278,7 @@ impl<'a> Demangle<'a> {
         self.name
     }
 
-    /// The bytes of its text, if it has one; that of Rust's older mangling has no hash, where it is read as Rust.
+    /// The bytes of the name's text, if it has one. A name of Rust's older mangling that is read as Rust has no hash in its text.
     #[must_use]
     pub fn text(&self) -> Option<&[u8]> {
         self.text.as_deref()
@@ -297,7 +297,7 @@ fn hash_of(name: &str) -> Option<(&str, &str)> {
     (is_path && hash.bytes().all(is_digit)).then_some((hash, suffix))
 }
 
-/// A text as a path and the suffix after it, which the name ends with.
+/// A text split into a path and the suffix after it, which the name ends with.
 fn without_suffix<'t>(text: &'t str, suffix: &str) -> (&'t str, &'t str) {
     let shown = text.len().checked_sub(suffix.len() + 3).filter(|_| !suffix.is_empty());
     match shown.and_then(|at| text.split_at_checked(at)) {
@@ -350,7 +350,7 @@ pub struct Counts {
 pub struct Tally {
     /// All of them.
     pub words: u64,
-    /// Those that were replaced by a text.
+    /// The words that were replaced by a text.
     pub replaced: u64,
     /// Those that stayed.
     pub refused: u64,
@@ -374,8 +374,8 @@ fn write_into(
     }
 }
 
-/// Puts the text of a name into `buffer` in place of what it held, if it costs at most the limit. The buffer keeps its memory
-/// from one name to the next; where the name is refused it is empty.
+/// Puts the text of a name into `buffer` in place of what the buffer held, if the text costs at most the limit. The buffer keeps its memory
+/// from one name to the next; where the name is refused, the buffer is empty.
 ///
 /// # Errors
 ///
@@ -394,7 +394,7 @@ pub enum Mangling {
     RustV0,
     /// Rust's older names, with [`Options::legacy`].
     RustLegacy,
-    /// What a newer library tells, by its number.
+    /// A mangling that a newer library reports, by its number.
     Other(u32),
 }
 
@@ -403,10 +403,10 @@ pub enum Mangling {
 pub struct Part {
     /// What it is.
     pub role: Role,
-    /// The stretch of the text's bytes that it is: empty, at the text's end, for what isn't in the text, as the hash of an older Rust name.
+    /// The part's bytes in the text: empty, at the text's end, for a part that isn't in the text, such as the hash of an older Rust name.
     pub text: Range<usize>,
-    /// The bytes of the name that spell it, with those of an underscore that was dropped before them. What a reference refers to is
-    /// spelled by the reference.
+    /// The bytes of the name that spell the part, counted with an underscore that was dropped. A part that a reference refers to is spelled
+    /// by the reference.
     pub symbol: Range<usize>,
 }
 
@@ -419,7 +419,7 @@ pub struct Parsed {
     pub kind: NameKind,
     /// How the name is mangled.
     pub mangling: Mangling,
-    /// In the order of their starts; of two parts, one is within the other, or they are apart.
+    /// In the order of their starts; any two parts are apart, or one is within the other.
     pub parts: Vec<Part>,
 }
 
@@ -432,8 +432,8 @@ impl Parsed {
     }
 }
 
-/// The text of a name with its parts: what stretches of it are, as the name's scope, its base, and each of its arguments and parameters.
-/// Texts are whole, and types aren't read: [`Options::short`] and [`Options::types`] have no effect.
+/// The text of a name with its parts: which stretches of it are the name's scope, its base, and each of its arguments and parameters. Texts
+/// are whole, and types aren't read: [`Options::short`] and [`Options::types`] have no effect.
 ///
 /// ```
 /// use symdemangle::{NameKind, Options, Role};
@@ -481,8 +481,8 @@ pub fn parts(name: &[u8], options: Options) -> Result<Parsed, Error> {
     })
 }
 
-/// Puts a text into `buffer` with each word that is a symbol replaced by its text, as the program `demangle` does, and says how
-/// many such words it has. One set of lists serves all words; a word that is refused stays as it is.
+/// Puts a text into `buffer` with each word that is a symbol replaced by its text, as the program `demangle` does, and says how many such
+/// words the text has. One set of lists serves all words; a word that is refused stays as it is.
 ///
 /// # Errors
 ///
@@ -493,12 +493,12 @@ pub fn filter_into(text: &[u8], options: Options, buffer: &mut Vec<u8>) -> Resul
     Ok(tally)
 }
 
-/// Puts the pressed spelling of a name into `buffer`: different spellings of the same symbol have the same one. It takes no symbols
-/// that the wide grammar alone reads.
+/// Puts the pressed spelling of a name into `buffer`: different spellings of the same symbol have the same pressed spelling. It takes no
+/// symbols that the wide grammar alone reads.
 ///
 /// # Errors
 ///
-/// Every [`Error`] but [`Error::TooLong`] and [`Error::NoSpelling`].
+/// Every [`Error`] except [`Error::TooLong`] and [`Error::NoSpelling`].
 pub fn press_into(name: &[u8], buffer: &mut Vec<u8>) -> Result<(), Error> {
     write_into(buffer, |buffer| library::press(name, false, buffer))
 }
@@ -508,16 +508,16 @@ pub fn press_into(name: &[u8], buffer: &mut Vec<u8>) -> Result<(), Error> {
 ///
 /// # Errors
 ///
-/// Every [`Error`] but [`Error::TooLong`].
+/// Every [`Error`] except [`Error::TooLong`].
 pub fn press_wide_into(name: &[u8], buffer: &mut Vec<u8>) -> Result<(), Error> {
     write_into(buffer, |buffer| library::press(name, true, buffer))
 }
 
-/// The work that reading a name takes, which no limit bounds. Of the options only the grammar matters here.
+/// The work that reading a name takes, which no limit bounds. The grammar is the only option that matters here.
 ///
 /// # Errors
 ///
-/// Every [`Error`] but [`Error::TooLong`].
+/// Every [`Error`] except [`Error::TooLong`].
 pub fn counts(name: &[u8], options: Options) -> Result<Counts, Error> {
     let mut counts = Counts::default();
     library::count(name, options, &mut counts).answer()?;
@@ -532,7 +532,7 @@ struct Block<'a> {
     ends: Vec<usize>,
     outcomes: Vec<Outcome>,
     buffer: Vec<u8>,
-    /// For a name whose text has no place in `buffer`.
+    /// The text of a name whose text doesn't fit in `buffer`.
     alone: Vec<u8>,
 }
 
@@ -575,9 +575,9 @@ impl<'a> Block<'a> {
     }
 }
 
-/// The texts of many names, in order: each is lent to `each` with its name. Some hundred names at a time are taken from the
-/// iterator and given to one call of the library, which makes its lists once for all of them: three quarters of the work of
-/// [`demangle_into`] for each.
+/// The texts of many names, in order: each is lent to `each` with its name. Some hundred names at a time are taken from the iterator and
+/// given to one call of the library, which makes its lists once for all of them. This takes three quarters of the work of calling
+/// [`demangle_into`] for each name.
 pub fn for_each_text<'a>(
     names: impl IntoIterator<Item = &'a [u8]>,
     options: Options,

@@ -1,4 +1,4 @@
-//! The library's calls, with slices in the place of pointers. `symdemangle.h` has their contracts in words.
+//! The library's calls, with slices in place of pointers. `symdemangle.h` has their contracts in words.
 
 use crate::{Counts, Error, Options, Tally};
 
@@ -25,7 +25,7 @@ pub struct Told {
     pub mangling: u32,
 }
 
-/// What comes with a status.
+/// A status, with the length and the offset that a call reports.
 #[repr(C)]
 #[derive(Clone, Copy, Default)]
 pub struct Outcome {
@@ -161,7 +161,8 @@ fn flags_of_words(options: Options) -> u32 {
     flags(options.types(false)) | words
 }
 
-/// Calls with these flags, and without the newer ones where the library is older than they are.
+/// Makes a call with these flags, or without the newer ones where the library is older than they
+/// are.
 fn told(flags: u32, mut call: impl FnMut(u32) -> Status) -> Status {
     let older = flags & !(WITHIN | TYPES | SHORT | KEEP_INLINE);
     match call(flags) {
@@ -170,8 +171,8 @@ fn told(flags: u32, mut call: impl FnMut(u32) -> Status) -> Status {
     }
 }
 
-// SAFETY, of each call below: a slice's pointer isn't null and is valid for its length; what is lent to be written is borrowed
-// alone, so it doesn't overlap with anything and no other thread touches it.
+// SAFETY, of each call below: a slice's pointer isn't null and is valid for its length; what is lent to be written is borrowed exclusively,
+// so it doesn't overlap with anything and no other thread touches it.
 
 pub fn text(name: &[u8], options: Options, buffer: &mut [u8]) -> Outcome {
     let mut outcome = Outcome::default();
@@ -189,7 +190,7 @@ pub fn text(name: &[u8], options: Options, buffer: &mut [u8]) -> Outcome {
     outcome
 }
 
-/// Texts are whole, and types aren't read, since these have no parts.
+/// Texts are whole, and types aren't read, since short texts and types have no parts.
 pub fn parts(name: &[u8], options: Options, buffer: &mut [u8], parts: &mut [NamePart]) -> Told {
     let mut told = Told::default();
     unsafe {
@@ -208,7 +209,7 @@ pub fn parts(name: &[u8], options: Options, buffer: &mut [u8], parts: &mut [Name
     told
 }
 
-/// `ends` go up to the length of `names`, and are as many as the outcomes.
+/// `ends` has an end for each outcome, up to the length of `names`.
 pub fn texts(
     names: &[u8],
     ends: &[usize],

@@ -8,7 +8,7 @@ fn is_older() -> bool {
     std::env::var_os("SYMDEMANGLE_OLDER").is_some()
 }
 
-/// By the ABI's first grammar, at a limit.
+/// Options that read by the ABI's first grammar, at a limit.
 fn plain(limit: u32) -> Options {
     Options::default().wide(false).limit(limit)
 }
@@ -54,7 +54,7 @@ fn options() {
 
 #[test]
 fn names_from_outside_with_a_limit() {
-    // A<int, int>, A<that, that> and so on, which doubles 36 times
+    // A<int, int>, then an A with this type as both arguments, and so on: the text doubles 36 times
     let doubled = |digit| format!("S_IS{digit}_S{digit}_E");
     let name = format!("_Z1f1AIiiE{}", ('0'..='9').chain('A'..='Z').map(doubled).collect::<String>());
     let options = Options::default().limit(25_000);

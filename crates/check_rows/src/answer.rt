@@ -6,7 +6,8 @@ use sym_core::Refusal;
 /// What is in a list before a call appends to it.
 pub const BEFORE: &[u8] = b"> ";
 
-/// Whether a row holds by the calls made so far. Where memory ran out, only that is recorded.
+/// Whether a row holds, judged by the calls made so far. If memory ran out, only the lack of memory
+/// is recorded.
 #[derive(Clone, Copy)]
 pub struct Verdict {
     pub alloc: Global,
@@ -24,7 +25,7 @@ impl Verdict {
         }
     }
 
-    /// Notes whether a condition that has to hold does.
+    /// Records whether a required condition holds.
     pub fn require(&mut self, holds: bool) {
         if !holds {
             self.failed = true;
@@ -36,7 +37,7 @@ impl Verdict {
         self.lacked = true;
     }
 
-    /// Notes whether a text is the one in a row.
+    /// Notes whether a text is the text that a row gives.
     pub fn text(&mut self, text: &[u8], wanted: &[u8]) {
         match spelled(self.alloc, text) {
             Ok(text) => self.require(text.as_slice() == wanted),
@@ -69,7 +70,7 @@ impl Verdict {
         }
     }
 
-    /// Notes whether a call appended to a list what the row says. A call that refuses leaves the list as it was.
+    /// Notes whether the bytes that a call appended to a list are those that the row gives. A call that refuses leaves the list as it was.
     pub fn appended(&mut self, answer: Result<(), Refusal>, list: &[u8], wanted: &[u8]) {
         let Some(text) = list.strip_prefix(BEFORE) else {
             self.require(false);

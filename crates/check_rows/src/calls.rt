@@ -38,7 +38,7 @@ fn counted(verdict: &mut Verdict, answer: Demangled, list: &[u8], row: Row<'_>) 
     }
 }
 
-/// Checks a demangler's text of a symbol in a list, and its counts. Answers what the demangler answered.
+/// Checks the text that a demangler appends to a list for a symbol, and the symbol's counts. Answers what the demangler answered.
 fn ask_counting<D: Demangler>(
     verdict: &mut Verdict,
     demangler: &D,
@@ -55,7 +55,7 @@ fn ask_counting<D: Demangler>(
     answer
 }
 
-/// Checks a demangler's text of a symbol in a list.
+/// Checks the text that a demangler appends to a list for a symbol.
 fn ask_appending<D: Demangler>(
     verdict: &mut Verdict,
     demangler: &D,
@@ -87,7 +87,7 @@ pub fn ask<D: Demangler>(
     counted
 }
 
-/// Checks the text of a symbol that was read, by each call that prints a text.
+/// Checks the text of a symbol that was read, for each call that prints a text.
 fn ask_symbol<M: Calls>(verdict: &mut Verdict, symbol: &M::Symbol, row: Row<'_>) {
     let Row {
         s,
@@ -157,7 +157,7 @@ fn byte_by_byte<M: Calls>(alloc: Global, row: Row<'_>) -> Result<Option<Vec<u8>>
     in_pieces::<M>(alloc, &bytes, row)
 }
 
-/// Checks the text that a workspace, which has read ahead, appends for a symbol to a list.
+/// Checks the text that a workspace, which has read ahead, appends to a list for a symbol.
 fn ask_workspace<M: Calls>(verdict: &mut Verdict, workspace: &mut Workspace<M>, row: Row<'_>)
     requires { FitsSymbol row.s.now }
 {

@@ -9,9 +9,9 @@ use sym_core::fits;
 /// How a symbol is changed at a place.
 #[derive(Clone, Copy)]
 pub enum Change {
-    /// The symbol ends there.
+    /// The symbol ends at the place.
     Cut,
-    /// The symbol has this byte there.
+    /// The symbol has this byte at the place.
     Put(u8),
 }
 
@@ -28,7 +28,7 @@ fn changed(alloc: Global, s: &[u8], place: usize, change: Change) -> Result<Vec<
     Ok(changed)
 }
 
-/// The answer for a symbol that is changed at a place: what a field has after the place and a blank, if it begins with these.
+/// The answer for a symbol that is changed at a place: the rest of a field that begins with the place and a blank.
 fn answer_at<'a>(
     alloc: Global,
     field: Option<&&'a [u8]>,
@@ -61,7 +61,8 @@ fn ask_changed(
     }
 }
 
-/// Requests the text of a symbol that is changed at a place. The symbol has to be malformed there, unless another answer is given. Answers whether one is given.
+/// Requests the text of a symbol that is changed at a place. The symbol has to be malformed there, unless another answer is given. Returns
+/// whether another answer is given.
 fn ask_at(
     verdict: &mut Verdict,
     lists: &mut AllLists,
@@ -81,7 +82,7 @@ fn ask_at(
 }
 
 /// Demangles a symbol with each of its bytes changed in turn. The changed symbol has to be malformed at that byte, unless a field of the
-/// row gives another answer: it has the place, a blank, and the answer.
+/// row gives another answer: such a field has the place, a blank, and the answer.
 pub fn ask_each_place(
     verdict: &mut Verdict,
     lists: &mut AllLists,

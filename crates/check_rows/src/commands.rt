@@ -12,7 +12,7 @@ use sym_print::Detail;
 use sym_short::Texts;
 use symfilt_command::{run, run_over};
 
-/// What a program has to write where a row says only that it writes something.
+/// What a row has where a program only has to write something.
 const ANY: &[u8] = b"*";
 
 /// How a program has to end, and what it has to write.
@@ -101,7 +101,7 @@ fn run_demangle(verdict: &mut Verdict, words: &[&[u8]], input: &[u8], wanted: En
     ended(verdict, status, &out.into_list(), &err.into_list(), wanted);
 }
 
-/// How `demangle` filters with these options; none where the options say more than how much of a symbol is shown.
+/// How `demangle` filters with these options; none where the options say anything besides how much of a symbol is shown.
 fn shown_by(options: &[u8]) -> Option<Filtering> {
     let detail = match options {
         b"-" => Detail::Full,
@@ -120,7 +120,7 @@ fn shown_by(options: &[u8]) -> Option<Filtering> {
     })
 }
 
-/// What symfilt has to do with these words. Unless it has to filter, it has to end this way.
+/// What symfilt has to do with these words. Unless it has to filter, symfilt has to end this way.
 fn asked_of_symfilt(verdict: &mut Verdict, words: &[&str], wanted: Ending<'_>) -> Run {
     let mut out = Vec::new(verdict.alloc);
     let mut err = Vec::new(verdict.alloc);
@@ -149,12 +149,12 @@ fn ask_filters(
     Ok(())
 }
 
-/// Checks that the program with these options filters a text to this one, and that the static
+/// Checks that the program with these options filters a text into this one, and that the static
 /// library does so, too.
 ///
 /// # Errors
 ///
-/// Where there is no memory for the words and the text.
+/// `Err` where there is no memory for the words and the text.
 pub fn ask_to_filter(
     verdict: &mut Verdict,
     options: &[u8],
@@ -178,7 +178,7 @@ pub fn ask_to_filter(
 ///
 /// # Errors
 ///
-/// Where there is no memory for the words.
+/// `Err` where there is no memory for the words.
 pub fn ask_to_end(
     verdict: &mut Verdict,
     words: &[u8],
@@ -195,7 +195,7 @@ pub fn ask_to_end(
 ///
 /// # Errors
 ///
-/// Where there is no memory for the words and the input.
+/// `Err` where there is no memory for the words and the input.
 pub fn ask_to_demangle(
     verdict: &mut Verdict,
     options: &[u8],

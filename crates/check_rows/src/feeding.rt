@@ -11,8 +11,8 @@ pub fn most_steps(len: usize) -> usize {
     len.saturating_mul(32).saturating_add(48)
 }
 
-/// Whether a reader refuses as soon as its bytes show the reason, by how many bytes it had before
-/// and after the last piece.
+/// Whether a reader refuses as soon as its bytes show the reason, given how many bytes it had
+/// before and after the last piece.
 fn is_prompt(refusal: Refusal, before: u32, len: u32, ended: bool) -> bool {
     match refusal {
         Refusal::Malformed { at } => before <= at && (at < len || ended),

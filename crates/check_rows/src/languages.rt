@@ -127,7 +127,7 @@ pub fn ask_pressed(verdict: &mut Verdict, lists: &mut Lists<Abi>, row: Row<'_>)
     ask(verdict, &Pressing, lists, row);
 }
 
-/// Checks a symbol's spelling with C++ by the wide grammar. A symbol that has no spelling is answered as too long.
+/// Checks a symbol's spelling with C++ by the wide grammar. For a symbol that has no spelling, the answer is that it is too long.
 pub fn ask_wide_pressed(verdict: &mut Verdict, lists: &mut Lists<Wide>, row: Row<'_>)
     requires { FitsSymbol row.s.now }
 {

@@ -24,7 +24,7 @@ pub const UNWRITTEN: u8 = 0xa5;
 /// The value of each number before a call sets it.
 pub const UNTOLD: u32 = 0xa5a5_a5a5;
 
-/// What a row has for a name that is no symbol and can't be a type.
+/// The answer that a row gives for a name that is no symbol and can't be a type.
 const NO_NAME: &[u8] = b"not a symbol";
 
 /// A number that is no flag.
@@ -43,7 +43,7 @@ enum Call {
 struct Asked<'a> {
     call: Call,
     bytes: &'a [u8],
-    /// The underscore before the symbol that a row has, if there is one.
+    /// The underscore that a row has before its symbol, if there is one.
     front: &'a [u8],
     limit: u32,
     flags: u32,
@@ -309,8 +309,8 @@ fn ask_status_of_all(
     verdict.require(status == wanted && nothing && is_unwritten(&buffer));
 }
 
-/// Checks that the call over many names refuses ends that are fewer or more than the outcomes, that decrease or that pass the
-/// names, and a number that is no flag.
+/// Checks that the call over many names refuses wrong ends and a number that is no flag. Ends are wrong if there are fewer or more of them
+/// than outcomes, if they decrease, or if they lie past the names.
 fn ask_with_wrong_ends(verdict: &mut Verdict, s: &[u8], flags: u32) {
     let len = s.len();
     let past = len.saturating_add(1);

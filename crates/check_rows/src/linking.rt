@@ -25,8 +25,8 @@ fn refuses_again<M: Calls>(linker: &mut Linker<M>, refusal: Refusal, taken: usiz
     linker.step() == Err(refusal) && linker.steps() as usize == taken
 }
 
-/// One step of a linker that has taken this many steps: whether nothing is left to do then. None where the step isn't counted, or where a
-/// repeated call gives another answer.
+/// One step of a linker that has taken this many steps: whether nothing is left to do afterwards. None where the step isn't counted, or
+/// where a repeated call gives another answer.
 fn step<M: Calls>(linker: &mut Linker<M>, taken: usize) -> Result<Option<bool>, Refusal>
     ensures { IfOk result (λ step. IfSome step (λ done. done ≡ true → linker.new.done ≡ true)) }
 {
@@ -46,7 +46,7 @@ fn step<M: Calls>(linker: &mut Linker<M>, taken: usize) -> Result<Option<bool>, 
     }
 }
 
-/// Steps until nothing is left to do, and answers how many steps that took. None where it takes more than `most` steps.
+/// Steps until nothing is left to do, and answers the number of steps. None if there are more than `most` steps.
 fn step_all<M: Calls>(linker: &mut Linker<M>, most: usize) -> Result<Option<usize>, Refusal>
     ensures { IfOk result (λ taken. IfSome taken (λ _. linker.new.done ≡ true)) }
 {
@@ -77,7 +77,7 @@ fn rows_of<M: Calls>(alloc: Global, s: &[u8]) -> Result<usize, Refusal>
     Ok(shape.rows().len())
 }
 
-/// How many steps a reader takes that is fed byte by byte; none if a step is wrong.
+/// How many steps a reader takes when it is fed byte by byte; none if a step is wrong.
 fn reading_steps<M: Calls>(alloc: Global, s: &[u8]) -> Result<Option<usize>, Refusal> {
     let bytes: Vec<&[u8]> = s.chunks(1).collect(alloc)?;
     match fed(alloc, &M::grammar(), &bytes)? {
@@ -92,7 +92,7 @@ fn has_counts<M: Calls>(symbol: &M::Symbol, rows: usize, steps: usize) -> bool {
     counts.rows as usize == rows && counts.steps as usize == steps
 }
 
-/// A symbol of this many rows that is linked step by step, after a reader that took these steps.
+/// Links a symbol of this many rows step by step, after a reader took this many steps to read it.
 /// None if a step is wrong, or if the symbol has other counts.
 fn linked_after<M: Calls>(
     alloc: Global,

@@ -1,5 +1,5 @@
-//! Gives the symbols of rows to every call that answers symbols, and names the rows for which a call gives another answer. A row has a symbol
-//! and the answer that it has to get. `docs/TESTING.md` says how rows are written.
+//! Gives the symbols of rows to every call that takes a symbol, and names the rows for which a call gives another answer. A row has a
+//! symbol and the answer that it has to get. `docs/TESTING.md` says how rows are written.
 #![tactic(auto)]
 
 mod answer;
@@ -36,7 +36,7 @@ const FAILED: u8 = 1;
 /// The status where memory ran out, or reading or writing failed.
 const FAULT: u8 = 3;
 
-/// What was found of the rows: whether there were any, whether one of them doesn't hold, and whether memory ran out for one of them.
+/// What was found out about the rows: whether there were any, whether one of them doesn't hold, and whether memory ran out for one of them.
 #[derive(Clone, Copy)]
 struct Outcome {
     some: bool,
@@ -73,7 +73,7 @@ fn check_each<R: Print + AllocGlobal>(
 }
 
 /// Holds the lists of both grammars. Without this trait, the proof of a function that takes the
-/// lists would be about everything in them.
+/// lists would be about everything in these lists.
 trait Held {
     fn lists(&mut self) -> &mut AllLists;
 }

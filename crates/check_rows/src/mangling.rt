@@ -1,4 +1,4 @@
-// The calls that the crates of both manglings have, each by one name.
+// The calls that the crates of both manglings share, each under one name.
 
 ghost use Rattle.sym_core.specs.Number.{FitsSymbol};
 

@@ -112,8 +112,8 @@ fn ask_with_room(verdict: &mut Verdict, name: &[u8], parsed: &Parsed, room: usiz
     }
 }
 
-/// Checks the call for the parts of a name that has these parts. The call has to write the parts and the text where there is room for both,
-/// and nothing where one byte or one part is missing.
+/// Checks the call that gives a name's parts, for a name that has these parts. The call has to write the parts and the text where there is
+/// room for both, and nothing where one byte or one part is missing.
 pub fn ask_library_for_parts(verdict: &mut Verdict, name: &[u8], parsed: &Parsed) {
     let room = parsed.text.len();
     let places = parsed.parts.len();

@@ -9,7 +9,7 @@ use std::alloc::{AllocError, Global};
 use sym_core::Refusal;
 use sym_print::{Item, Layout, Part, Printer, push_reversed};
 
-/// Whether a printer repeats this answer, and counts these steps before and after.
+/// Whether a printer repeats this answer, with this count of steps before and after the call.
 fn answers_again<Y: Layout>(
     printer: &mut Printer<Y::Ctx>,
     y: &Y,
@@ -22,7 +22,8 @@ fn answers_again<Y: Layout>(
     printer.steps() == taken && printer.step(y) == answer && printer.steps() == taken
 }
 
-/// The step of a printer with this number: whether nothing is left to do then. None where the step isn't counted, or where a repeated call gives another answer.
+/// The printer's step with this number: whether nothing is left to do after it. None where the step isn't counted, or where a repeated call
+/// gives another answer.
 fn step<Y: Layout>(
     printer: &mut Printer<Y::Ctx>,
     y: &Y,
@@ -62,7 +63,7 @@ pub fn printed_in_steps<Y: Layout>(
     Ok(None)
 }
 
-/// Puts the parts of an item on top of those that wait.
+/// Puts the parts of an item on top of the waiting parts.
 fn open<Y: Layout>(
     y: &Y,
     item: Item<Y::Ctx>,
@@ -78,7 +79,7 @@ fn open<Y: Layout>(
     Ok(())
 }
 
-/// Puts the parts of an item on top of those that wait, or adds the bytes of a text, and answers what the item or the text costs.
+/// Puts the parts of an item on top of the waiting parts, or adds the bytes of a text, and answers what the item or the text costs.
 fn take<Y: Layout>(
     y: &Y,
     part: Part<Y::Ctx>,
@@ -107,7 +108,7 @@ fn take<Y: Layout>(
 ///
 /// # Errors
 ///
-/// `TooLong` where they cost more than the limit, and `Memory`.
+/// `TooLong` where the parts cost more than the limit, and `Memory`.
 fn take_all<Y: Layout>(
     y: &Y,
     waiting: &mut Vec<Part<Y::Ctx>>,
@@ -134,7 +135,7 @@ fn take_all<Y: Layout>(
 ///
 /// # Errors
 ///
-/// `TooLong` where it costs more than the limit, and `Memory`.
+/// `TooLong` where the text costs more than the limit, and `Memory`.
 pub fn put_together<Y: Layout>(
     alloc: Global,
     y: &Y,

@@ -9,7 +9,7 @@ pub const LIMIT: u32 = 1_000_000;
 /// The reason why a symbol that is read has no text.
 pub const TOO_LONG: &[u8] = b"too long";
 
-/// A symbol, how it is shown and what has to be answered then.
+/// A symbol, how it is shown, and the answer that it has to get.
 #[derive(Clone, Copy)]
 pub struct Row<'a> {
     pub kind: Kind,
@@ -24,7 +24,8 @@ pub struct Row<'a> {
 }
 
 impl<'a> Row<'a> {
-    /// A row of the same symbol at another limit, with the answer that it has to have there.
+    /// A row of the same symbol at another limit, with the answer that the symbol has to have at
+    /// that limit.
     pub fn with(self, limit: u32, wanted: &'a [u8]) -> Row<'a> {
         Row {
             limit,

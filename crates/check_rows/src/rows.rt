@@ -1,4 +1,5 @@
-// Rows: a row has a word that says what it is about, and then fields; tabs separate them.
+// Rows: a row has a word that says what the row is about, and then fields; tabs separate the word
+// and the fields.
 
 ghost use Rattle.sym_core.specs.Number.{FitsSymbol};
 
@@ -118,7 +119,7 @@ fn ask_for_reason(verdict: &mut Verdict, lists: &mut AllLists, row: Row<'_>) {
     }
 }
 
-/// A symbol's text, as a row spells it, if it has this length.
+/// The text that a row spells for a symbol, if the text has this length.
 fn spelled_text(alloc: Global, row: Row<'_>, len: u32) -> Result<Option<Vec<u8>>, Refusal>
     requires { FitsSymbol row.s.now }
 {
@@ -155,7 +156,7 @@ fn ask_for_length(verdict: &mut Verdict, lists: &mut AllLists, row: Row<'_>, len
     ask_each(verdict, lists, row.with(below, TOO_LONG));
 }
 
-/// Bytes with a front, repeated bytes, and an end.
+/// Bytes made of a front, a repeated piece and an end.
 fn repeated(
     alloc: Global,
     front: &[u8],

@@ -32,7 +32,7 @@ fn with_failure(good: usize, failure: Call) -> [Call; CALLS] {
     calls
 }
 
-/// Whether these bytes may have been written where others had to be: all of them, or a beginning after a fault.
+/// Whether these bytes are what may have been written: all the wanted bytes if the stream ended, and otherwise a beginning of them.
 fn may_be_written(ended: bool, written: &[u8], wanted: &[u8]) -> bool {
     if ended {
         return written == wanted;

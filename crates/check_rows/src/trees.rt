@@ -45,7 +45,8 @@ fn push_node(
     Ok(())
 }
 
-/// Appends a part of a node, whose tree is one of these, at its place among the parts.
+/// Appends the tree of a node's part, found by its number in `trees`, at the part's place among the
+/// parts.
 fn push_part(
     trees: &[Vec<u8>],
     part: u32,
@@ -213,7 +214,7 @@ fn tree_of_pieces(alloc: Global, first: &[u8], second: &[u8]) -> Result<Vec<u8>,
     Ok(rust_tree(alloc, &symbol)?)
 }
 
-/// Checks the tree of a symbol, in which each node has the trees of its parts, or the reason why the symbol isn't read.
+/// Checks a symbol's tree, in which each node has the trees of its parts; or checks the reason why the symbol isn't read.
 pub fn ask_tree(verdict: &mut Verdict, row: Row<'_>) {
     let Row { s, wanted, .. } = row;
     if !fits(s) || s.len() < 2 {

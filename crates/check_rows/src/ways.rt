@@ -37,7 +37,7 @@ fn is_short_in_rust(alloc: Global, s: &[u8], detail: Detail) -> bool
     }
 }
 
-/// Checks, by a mangling, the way of a symbol that has a text.
+/// Checks which way writes the text of a symbol, by a mangling; the symbol has to have a text.
 fn ask_way_by<M: Calls>(
     verdict: &mut Verdict,
     s: &[u8],
@@ -52,7 +52,7 @@ fn ask_way_by<M: Calls>(
     verdict.require(way == wanted);
 }
 
-/// Checks the way of a symbol by the grammar of this name, in a detail.
+/// Checks which way writes the text of a symbol in a detail, by the grammar of this name.
 pub fn ask_way(verdict: &mut Verdict, grammar: &[u8], s: &[u8], detail: Detail, wanted: &[u8]) {
     if !fits(s) {
         verdict.require(false);

@@ -1,4 +1,4 @@
--- The arguments of a name, as long as they are types, and packs of them.
+-- The arguments of a name, as long as they are types or packs of types.
 use Rattle.cpp_direct.proofs.AllGround.{Around, Detail, integer, Kind, list, nil, pack, signed_digits, Term, tree, arith, ◌≡◌, ◌≢◌, ℕ, zero, suc, ◌+◌, ◌-◌, ◌≤◌, ◌<◌, length, List, [], ◌∷◌, ◌++◌, reverse, slice_get, inr, inl, Bool, true, false, Some, refl, ap, sym, ◌∙◌, subst, codes, append_assoc, append-nil, false≢true, slice_get_within, length-append, AreAmong, AreKnown, Argument, argument_around, argument_entry, Arguments, arguments_or_pack, ArgumentsGoOn, AwaitsArgument, AwaitsArgumentNumber, AwaitsArgumentOfName, AwaitsKnownArgument, AwaitsNamedType, Belongs, below, Closes, ComeBefore, detail_of, Direct, element_kind, EndsNamed, EndsOtherwise, extra_of, GoesOn, HasPack, in_front_of_next, is_noted, IsAmong, IsArgumentRead, IsElementAs, IsElementPassed, IsKnown, IsListEnded, IsLiteralRead, IsScoped, IsTemplate, IsTypeRead, IsWriting, Kept, KnowsMore, led_by, list_of, list_with, may_name, Names, nowhere, number_text, of_template, Open, opening_bracket, place_of, PrintAll, PrintAllBy, Prints, PrintsListed, Reads, Scope, scoped_in, sign_text, Stands, Symbol, Writes, Comes, Opened, Expects, IsDigitsAt, StandsAt, TreeOpens, minus_sign, Step, awaited-in, kept-grown, kept-same, kept-written, reverse-last, template-stays, none-known, kept-read, any-argument, enumerator-opens, listed-awaits, enumerator-prints, normal-filled, normal-unmarked, not-integer, all-as, listed-element, next-prints, none-print, list-more, none-text, among-stay, element-there, none-scoped}
 use Rattle.cpp_direct.proofs.AllRead.{next-written}
 use Rattle.cpp_direct.proofs.Listed.{pack-ends, list-ends, empty-pack-ends, last-found, element-goes-on, element-kind, pack-goes-on, some-elements, template-listed}
@@ -7,7 +7,7 @@ use Rattle.cpp_direct.proofs.Elements.{IsNumberRead, no-integer-type, number-unm
 -- ## What comes next
 
 -- Arguments of a name were read, or elements of a pack among the arguments, and the known ones were recorded. The text before the
--- next one is written.
+-- next argument or element is written.
 pub record AwaitsNext (s : Symbol) (w : Direct) (is_pack : Bool) (place number : ℕ) (known : Arguments) : Type 0 where
   pub kept : Kept s w
   pub open kept use *
@@ -527,7 +527,7 @@ pub last-there : (ts : List Term) (t : Term) → slice_get (ts ++ t ∷ []) (len
 last-there [] t = refl
 last-there (v ∷ ts) t = last-there ts t
 
--- an argument that is at its place is also among other trees, where one of them is the same tree
+-- an argument that is among some trees is also among any other trees that have the argument's tree
 among-others : {in_pack : Bool} {detail : Detail} {text : List ℕ} {place : Argument} {number : ℕ} {ts : List Term} (h : IsAmong in_pack detail text place number ts) (k : ℕ)
     (us : List Term) → slice_get us k ≡ Some h.own → IsAmong in_pack detail text place k us
 among-others h k us is = record { bytes = h.bytes; placed = h.placed; own = h.own; there = is; prints = h.prints }
@@ -721,7 +721,7 @@ elements-known s w last size known p size_is = (
     count_is : known.before ≡ length p.before
     count_is = p.come_before.count_is refl
 
--- after an element of the pack the pack ends, and with it the arguments
+-- the pack ends after one of its elements, and the arguments end with the pack
 pub pack-closes : (s : Symbol) (w new : Direct) (last size : ℕ) (known : Arguments) (p : AwaitsKnownArgument s w true last known)
     → StandsAt s.bytes w.at (69 ∷ []) → StandsAt s.bytes (w.at + 1) (69 ∷ []) → reverse new.waiting.list.items ≡ p.owner ∷ p.rest → new.text ≡ w.text
     → new.candidates ≡ w.candidates → new.has_scope ≡ w.has_scope → new.at ≡ w.at + 1 + 1 → size ≡ last + 1 - known.before

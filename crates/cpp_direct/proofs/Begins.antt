@@ -18,7 +18,7 @@ encoded-whole s opened_ e at st comes = record {
 whole-behind : (s : Symbol) (lead : List ℕ) (e : Term) (at : ℕ) (st : State) → is_local s.bytes ≡ false → EndsBehind s lead e at → EncodedBehind s lead e at st
 whole-behind s lead e at st apart p = record { whole = λ f. p; entity = λ is. absurd (false≢true (sym apart ∙ is)); member = λ is. absurd (false≢true (sym apart ∙ is)) }
 
--- a symbol that names neither a local entity nor a guard variable isn't that of an object's guard variable
+-- a symbol that names neither a local entity nor a guard variable isn't the symbol of an object's guard variable
 no-object : (s : List ℕ) → is_local s ≡ false → is_guard s ≡ false → is_object s ≡ false
 no-object s apart other = rw (apart, other) refl
 
@@ -61,7 +61,7 @@ items-taken s w p v at st items = record {
   onward = λ l here now last. p.onward (encoding_of v (no_items l)) here now (items.onward l here now last);
 }
 
--- after the name of an encoding its items follow, or none
+-- an encoding's items, if it has any, follow its name
 pub items-await : (s : Symbol) (w : Direct) (p : AwaitsEncoding s w) (v : Value) (at : ℕ) (st : State) → Comes s (encoding-expected s w p).inner v at st
     → AwaitsItems s w.text.list.items v at st
 unfolding no_items may_be_empty
@@ -109,7 +109,7 @@ thunk-awaited s opened_ by w apart other base text_is no_candidate =
     base-awaited s opened_ (thunk (adjusting by)) (thunk_text (adjusting by)) w apart other base text_is (thunk-filled (adjusting by)) no_candidate
     (thunk-shows (detail_of s) (adjusting by))
 
--- a text that is written after bytes that have no text is all that is written, if nothing was written before
+-- a text that is written after bytes without a text is the whole output, if nothing was written before
 thunk-written : (old middle new : Direct) (text : List ℕ) → IsFresh old → Reads old middle [] → Writes middle new text
     → (new.text.list.items ≡ text) × (new.candidates.list.items ≡ [])
 thunk-written old middle new text fresh reads writes = (
@@ -222,8 +222,8 @@ table-begins s w wide apart other starts first second at_is no_text none_ waitin
 
 -- ## Nested names
 
--- expects the first piece of a nested name after its N and the qualifiers of a member function, where the name of a function or
--- of data is expected
+-- expects the first piece of a nested name after an N and the qualifiers of a member function, if the name of a function or of
+-- data was expected there
 pub nest-awaited : (s : Symbol) (w : Direct) (kept : Kept s w) (purpose : Purpose) (encoding : ℕ) (inner : List Opened) (at first : ℕ) (place : MarkPlace)
     → is_type purpose ≡ false → Expects s Kind.CompleteName (in_name encoding) inner at kept.state → StandsAt s.bytes at (78 ∷ []) → first ≡ at + 1
     → IsMarkPlace s.bytes first place → w.at ≡ place.end

@@ -1,4 +1,4 @@
--- Construction tables: their derived class is read, and their base class.
+-- Construction tables: their derived classes and their base classes are read.
 use Rattle.cpp_direct.proofs.AllGround.{◌≡◌, refl, ap, sym, ◌∙◌, subst, ℕ, ◌+◌, ◌-◌, List, [], ◌∷◌, ◌++◌, length, take, drop, ◌≤◌, reverse, inl, arith, codes, append-nil, append_assoc, take-append_seam, construction, in_name, Kind, normal, Cuts, detail_of, Direct, Encoded, IsElementRead, IsSymbolEnded, IsWriting, Reads, Shows, Symbol, Writes, Expects, IsDigitsAt, StandsAt, Open, Step, kept-read, kept-same, kept-written, reverse-last, type-comes, table-shows, none-scoped}
 use Rattle.cpp_direct.proofs.AllRead.{cut-kept, cut-text, popped}
 use Rattle.cpp_direct.proofs.FunctionsWithin.{name-inside}

@@ -94,7 +94,7 @@ boolean-read s old new byte at d first second next is bit there reads = (
 
 -- ## Integers
 
--- what was read of a number that begins at a place
+-- a number that begins at a place was read and written
 abbrev pub IsNumberRead : (s : List ℕ) (old new : Direct) → Type 0
 IsNumberRead s old new =
     (n : Bool) × (ds : List ℕ) × StandsAt s old.at (minus_sign n) × IsDigitsAt s (old.at + length (minus_sign n)) ds new.at
@@ -122,7 +122,7 @@ cast-text : (letter : ℕ) (n : Signed) → is_plain_integer (builtin (letter �
     → codes "(" ++ look_up (letter ∷ []) builtin_texts ++ codes ")" ++ number_text n ≡ integer_text letter n
 cast-text letter n e = rw (e, integer_text) refl
 
--- an integer was read that is written without its type
+-- an integer that is written without its type was read
 pub plain-integer-read : (s : List ℕ) (old middle there new : Direct) (letter : ℕ) (ending : List ℕ) → (letter ≢ 0 → StandsAt s old.at (letter ∷ []))
     → true ≡ is_integer_letter letter → true ≡ is_plain_integer (builtin (letter ∷ [])) → middle.at ≡ old.at + 1 → Reads old middle []
     → IsNumberRead s middle there → ending ≡ look_up (letter ∷ []) literal_endings → Reads there new ending → there.at ≡ new.at → IsIntegerRead s old new
@@ -139,7 +139,7 @@ plain-integer-read s old middle there new letter ending first is plain next begu
           (reads-then old there new (number_text n) ending (reads-then old middle there [] (number_text n) begun read.4) written),
     )
 
--- an integer was read that is written after its type
+-- an integer that is written after its type was read
 pub cast-integer-read : (s : List ℕ) (old middle new : Direct) (letter : ℕ) → (letter ≢ 0 → StandsAt s old.at (letter ∷ []))
     → true ≡ is_integer_letter letter → false ≡ is_plain_integer (builtin (letter ∷ [])) → middle.at ≡ old.at + 1
     → Reads old middle (codes "(" ++ look_up (letter ∷ []) builtin_texts ++ codes ")") → IsNumberRead s middle new → IsIntegerRead s old new
@@ -292,7 +292,8 @@ enumerator-expected s old begun pushed new a stands next nothing writes text can
       begins = subst (λ k. TreeOpens s Kind.LiteralType e.inner a.goes.0 k a.state) (sym (at ∙ writes.at ∙ next)) e.opens;
     }
 
--- if a text doesn't end in the name of a type whose integers omit the type, neither do the bytes after a bracket in it
+-- if a text doesn't end in the name of a type whose integers omit the type, neither do the bytes after a bracket in
+-- that text
 pub no-integer-type : (text front bytes : List ℕ) → text ≡ front ++ codes "(" ++ bytes → EndsOtherwise text → EndsAsInteger bytes → ⊥
 no-integer-type text front bytes e other ending = go ending.1
   where

@@ -5,7 +5,7 @@ use Rattle.cpp_direct.proofs.PrintedLocals.{object-enclosing, function-encloses,
 
 -- ## The end
 
--- if an encoding ends with the symbol, the encoding's text is written of the whole symbol
+-- if an encoding ends with the symbol, the encoding's text is the text of the whole symbol
 pub whole-plain : (s : Symbol) (e : Term) (at : ℕ) (text : List ℕ) → Encoded s e at → Shows (detail_of s) e text → at ≡ length s.bytes → IsWhole s text
 whole-plain s e at text encoded shows ended = record {
   whole = symbol e [];
@@ -131,7 +131,7 @@ separated : (is_first : Bool) (ts : List Term) (l : List ℕ) → (is_first ≡ 
 separated true ts l none some = append-nil l ∙ ap (λ us. in_front_of_next us l) (sym (none refl))
 separated false ts l none some = sym (next-written ts l (some refl))
 
--- the text before a parameter is that of the parameters before it, with a comma if there are any
+-- the text before a parameter is the text of the earlier parameters, with a comma if there are any
 pub next-separated : (s : Symbol) {extra : ℕ} (w : Direct) (is_first : Bool) (mark : Mark) (start : ℕ) (argument : Arguments)
     (a : AreParametersRead s w extra is_first mark start argument) (text : List ℕ) → text ≡ w.text.list.items ++ separator is_first
     → text ≡ a.front ++ codes "(" ++ in_front_of_next a.ts a.texts
@@ -139,7 +139,7 @@ next-separated s w is_first mark start argument a text is =
     is ∙ ap (λ l. l ++ separator is_first) a.written ∙ append_assoc (a.front ++ codes "(") a.texts (separator is_first)
     ∙ ap (λ l. a.front ++ codes "(" ++ l) (separated is_first a.ts a.texts a.none a.some)
 
--- after a name, parameters continue with none read yet
+-- after a name, the list of parameters goes on with none read yet
 pub none-go_on : (s : Symbol) (argument : Arguments) (lead : List ℕ) (v : Value) (at : ℕ) (st : State) (p : TakesItems s lead v at st)
     → HasScope argument p.around → ParametersGoOn s argument lead (λ l. encoding_of v l) [] at st
 none-go_on s argument lead v at st p scoped = record { around = p.around; inner = p.inner; outside = p.outside; scoped = scoped; awaits = p.awaits; onward = p.onward }
@@ -190,7 +190,7 @@ pub no-text : (l : List ℕ) (from : ℕ) → from ≡ length l → from ≡ 0 �
 no-text [] from is none = refl
 no-text (b ∷ bs) from is none = absurd (omega (arith, is, none))
 
--- in the types of an encoding, parameters may name the arguments that its name ends in
+-- in the types of an encoding, parameters may name the arguments at the end of the encoding's name
 pub types-scoped : {detail : Detail} (text : List ℕ) (argument : Arguments) (around : Around) (own : Term) → IsEncodedAt argument.encoding around
     → around.scope ≡ arguments_of own → HasArguments detail text argument own → HasScope argument around
 types-scoped text argument around own encoded scope_is names = (
@@ -260,7 +260,8 @@ first-expected s w first last mark start argument p one text candidates scope_sa
 
 -- ## What precedes an encoding's text
 
--- a writer keeps what may be named when its candidates are removed or, before a local entity, become nowhere
+-- when a writer removes its candidates or, before a local entity, hides their texts, what it keeps is still right;
+-- before a local entity the state stays the same
 pub left-kept : (s : Symbol) (old new : Direct)
     → ((is_local s.bytes ≡ false) × (new.candidates.list.items ≡ [])) ⊎ AreLeft Hiding.All old.candidates.list.items new.candidates.list.items
     → new.has_scope ≡ old.has_scope → (kept : Kept s old) → (k : Kept s new) × (is_local s.bytes ≡ true → kept.state ≡ k.state)
@@ -290,7 +291,8 @@ left-kept s old new without scope_same kept = go without
       λ e. refl,
     )
 
--- what a writer keeps when the text before a place is removed; before a local entity its state stays
+-- when the text before a place is removed, what a writer keeps is still right; before a local entity the state stays
+-- the same
 pub cut-kept : (s : Symbol) (old new : Direct) (start : ℕ) → Cuts s.bytes old new start → (kept : Kept s old) → (k : Kept s new) × (is_local s.bytes ≡ true → kept.state ≡ k.state)
 cut-kept s old new start cuts kept = go cuts.candidates
   where
@@ -307,7 +309,7 @@ cut-kept s old new start cuts kept = go cuts.candidates
     )
     go (inr without) = left-kept s old new without cuts.scope kept
 
--- once the text before a place is removed, the text is what followed it
+-- once the text before a place is removed, only the text after that place is left
 pub cut-text : {s : List ℕ} (old new : Direct) (start : ℕ) (aside text : List ℕ) → Cuts s old new start → start ≡ length aside → old.text.list.items ≡ aside ++ text
     → new.text.list.items ≡ text
 cut-text old new start aside text cuts start_is written =
@@ -490,7 +492,7 @@ void-read s argument becomes make at st p stands =
     p.onward (tree (list t nil) true) (at + 1) st
     (goes.onward nothing_there (at + 1) st (expects-empty s Kind.Items p.around goes.inner (at + 1) st goes.awaits refl))
 
--- a name with its parameters is a function; after them may come an item that prints nothing
+-- a name with its parameters is a function; an item that prints nothing may follow them
 items-ended : (s : Symbol) {scope : Scope} {extra : ℕ} {ts : List Term} {texts text : List ℕ} (here : Direct) (mark : Mark) (start : ℕ) (argument : Arguments)
     (p : HasParameters s extra scope text mark start argument ts texts) (shown : List ℕ) (e items : Term) → here.text.list.items ≡ p.front ++ codes "(" ++ shown → (kept : Kept s here)
     → e ≡ function p.is_function.own (qualifiers (has_const mark)) (called_on mark) absent items
@@ -565,7 +567,7 @@ nothing-ended s w here is_first mark start argument p t kept text none apart goe
     made (u ∷ us) = p.is_function.makes u (list_with us (list t nil))
         ∙ ap (function p.is_function.own (qualifiers (has_const mark)) (called_on mark) absent) (parameters-before (u ∷ us) t apart)
 
--- a function is an encoding once its last bracket is written, and what precedes its text is removed
+-- a function is an encoding once its last bracket is written and what precedes its text is removed
 pub function-closed : (s : Symbol) (w last new : Direct) (mark : Mark) (start : ℕ) → IsFunctionEnded s w mark start → s.is_bare ≡ false
     → Writes w last (codes ")") → Cuts s.bytes last new start → IsEncodingEnded s new mark
 function-closed s w last new mark start p whole_ one cuts =
@@ -627,7 +629,7 @@ name-within s w mark start p bare =
     let named = p.lead ++ p.name in
     omega (arith, fronts.2, ap length p.written, length-append (p.front ++ codes "(") p.texts, length-append p.front (codes "("), ap length fronts.1, length-append named fronts.0)
 
--- the test of how a text ends compares its last bytes alone
+-- the test of a text's end compares only the last bytes
 pub ends-so : (text front last : List ℕ) → text ≡ front ++ last → ends_with nat_eq text last ≡ pointwise nat_eq last last
 ends-so text front last e =
     let size : length text - length last ≡ length front = omega (arith, ap length e, length-append front last) in

@@ -1,4 +1,5 @@
--- Functions read after a text, since they contain a type or their address is an argument: from their names to their ends.
+-- Functions that are read after a text, because they contain a type or because their address is an argument: from their
+-- names to their ends.
 use Rattle.cpp_direct.proofs.AllGround.{Comes, Discriminator, Expects, IsDiscriminatorAt, IsNameAt, IsPieceAt, Opened, StandsAt, local_in, with_candidate, added, AddressWithin, AreLeft, AreNamed, Arguments, AwaitsArgumentOfName, AwaitsFront, AwaitsLed, AwaitsLedParameters, AwaitsNamedType, AwaitsNest, AwaitsTypeName, below, called_on, detail_of, Direct, Encloses, has_const, HasArguments, HasLed, HasNameSo, HasScope, in_front_of_next, IsAddressed, IsAddressedRead, IsAddressNamed, IsBuiltinAt, IsElementIn, IsElementRead, IsEnclosingNamed, IsEnclosingParameterRead, IsEnclosingRead, IsGiven, IsInnerFrontRead, IsLedFunction, IsLedFunctionRead, IsLedParameterRead, IsMarkPlace, IsNesting, IsOwn, IsScoped, IsTypeRead, IsWriting, ItemsGoOn, ItemsOf, Kept, list_of, Mark, mark_text, MarkPlace, no_scope, nowhere, Open, PrintsName, PrintsPiece, qualifiers, Reads, Scope, Serves, Shows, Stands, Symbol, TypeWithin, Writes, absent, address_of, after, alone, arguments_of, Around, builtin, encoding_of, function, has_return_type, in_name, in_types, is_function_type, Kind, list, may_be_empty, named, nil, no_items, nothing_there, parameters, source, source_text, State, Term, tree, tree_of, types_of, Value, ends_with, nat_eq, ◌≡◌, ◌≢◌, refl, ap, sym, ◌∙◌, subst, ℕ, ◌+◌, List, [], ◌∷◌, ◌++◌, length, reverse, true, false, arith, codes, append-nil, append_assoc, Bool, ◌-◌, take, slice_get, Some, ◌&&◌, ◌≤◌, length-append, false≢true, Hiding, Purpose, Step, kept-read, kept-same, kept-written, reverse-last, value-added, front-left, kept-closed, kept-cut, value-comes, expects-empty, stands-split, element-awaits, address-opens, reads-of, reads-then, element-in, type-in, list-in, list-with-none, next-prints-in, none-print-in, as-name, source-prints, has-none, has-parameters, encoding-plain, encoding-returned, object-encoded, function-shows, mark-opens, parameters-kept, void-shows, made-void, made-with, as-in, has-member, has-plain, arguments-named, entry-scoped, name-unmarked}
 use Rattle.cpp_direct.proofs.AllRead.{nest-awaited, no-void, item-comes, next-written, parameter-goes_on, qualifiers-text, types-scoped, plain-text, void-read, some-elements, last-found, encoding-opens, name-source, local-type-opens, nowhere-scoped, arguments-given, named-there, scope_at, scope-kept, nest-comes, closed-prints, object-enclosing, local-prints, address-prints, function-encloses, name-encloses, name-shows, returned-enclosing, builtin-item, popped}
 
@@ -43,7 +44,7 @@ pub items-scoped : {s : Symbol} {encoding : ℕ} {becomes : Term → (at : ℕ) 
     (p : ItemsOf s encoding becomes v at st) → HasScope argument p.around → ItemsGoOn s argument becomes (λ l. encoding_of v l) [] at st
 items-scoped argument v at st p scoped = record { around = p.around; inner = p.inner; outside = p.outside; scoped = scoped; awaits = p.awaits; onward = p.onward }
 
--- the arguments that a function's name ends in are known now, and its types may name them
+-- the arguments at the end of a function's name are known now, and the function's types may name them
 pub now-scoped : {s : Symbol} {mark : Mark} {from : ℕ} {becomes : Term → (at : ℕ) → State → Type 0} (old new : Direct) (to : ℕ) (argument noted : Arguments) (kept : Kept s old)
     (p : HasNameSo s old.text.list.items mark from) → ItemsOf s argument.encoding becomes p.v old.at kept.state → old.has_scope ≡ false → new.has_scope ≡ true
     → new.text ≡ old.text → new.candidates ≡ old.candidates → argument ≡ record noted { encoding = argument.encoding }
@@ -309,7 +310,7 @@ function-read {Within = Within} {rest = rest} w mark place kept e own front byte
       (subst (λ n. Within kept.scope rest front e n kept.state) (sym at) within);
 }
 
--- a function whose name has no return type shows the same as one without a return type
+-- a function whose name has no return type shows the same text as a function without a return type
 shown-plain : (s : Symbol) {extra : ℕ} {mark : Mark} {ts : List Term} {texts : List ℕ} (f : IsLedFunction (detail_of s) extra mark ts texts) (e items : Term) (bytes : List ℕ)
     → e ≡ function f.own (qualifiers (has_const mark)) (called_on mark) f.returned items
     → Shows (detail_of s) (function f.own (qualifiers (has_const mark)) (called_on mark) absent items) bytes
@@ -572,7 +573,7 @@ address-opens-name s w a letters =
     name-opens s here.inner a.around (w.at + 6) a.state (AddressWithin s (below s a.scope (reverse w.waiting.list.items)) (w.text.list.items ++ codes "&")) here.awaits
     (λ e there then_ comes. (a.os, w.text.list.items, refl, λ ends. here.onward e there then_ comes ends, a.stands))
 
--- after its first bytes and its qualifiers expects the first piece of a nested name
+-- expects the first piece of a nested name, after the name's first bytes and its qualifiers
 pub address-nested : (s : Symbol) (old pushed opened_ : Direct) (encoding second : ℕ) (place : MarkPlace) → AwaitsArgumentOfName s old
     → StandsAt s.bytes old.at address_letters → encoding ≡ old.at + 6 → Writes old pushed (codes "&")
     → opened_.waiting.list.items ≡ pushed.waiting.list.items ++ Open.Address encoding ∷ [] → opened_.text ≡ pushed.text

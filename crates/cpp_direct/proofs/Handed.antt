@@ -4,7 +4,7 @@ use Rattle.cpp_direct.proofs.AllRead.{TakesElements, last-found, list-waits, som
 use Rattle.cpp_direct.specs.AllStates.{opening_text}
 use Rattle.cpp_direct.proofs.Elements.{element-added}
 
--- a type was read that the innermost entry is to mark
+-- a type that the innermost entry is to mark was read
 pub value-marked : (s : Symbol) (w : Direct) (is_reference marked_reference is_dependent : Bool) (entry : Open) (from : ℕ) (made : Term → Term) (mark : List ℕ)
     → IsWriting s w (Step.Value is_reference is_dependent) → slice_get w.waiting.list.items (length w.waiting.list.items - 1) ≡ Some entry
     → ((scope : Scope) (rest : List Open) (os : List Opened) (text : List ℕ) → Stands s scope (entry ∷ rest) os text → Marks s (below s scope rest) os text from made)
@@ -160,7 +160,7 @@ value-enumerator s w is_reference p found =
     go (Open.Pack ∷ owner ∷ rest) is waits = number (of_pack waits.0 waits.1) (Open.Pack ∷ owner ∷ rest) owner rest is (refl, waits.2) waits.3
     go (owner ∷ rest) is waits = number of_template (owner ∷ rest) owner rest is refl waits
 
--- an entry of any other kind accepts only types that name no argument of the function's template
+-- an entry that is none of the kinds excluded here accepts only types that name no argument of the function's template
 pub passed-closed : (o : Open) → ((x : ℕ) → o ≡ Open.Pointer x → ⊥) → ((x : ℕ) → o ≡ Open.Lvalue x → ⊥) → ((x : ℕ) → o ≡ Open.Rvalue x → ⊥)
     → ((x : ℕ) → o ≡ Open.Const x → ⊥) → ((x : Mark) (y : ℕ) (z : Arguments) → o ≡ Open.Parameters x y z → ⊥)
     → ((x : Mark) (y : ℕ) (z : Arguments) → o ≡ Open.Front x y z → ⊥) → IsPassedClosed o
@@ -172,7 +172,7 @@ passed-closed (Open.Parameters x y z) p l r c f k = absurd (f x y z refl)
 passed-closed (Open.Front x y z) p l r c f k = absurd (k x y z refl)
 passed-closed _ p l r c f k = tt
 
--- an entry that accepts only types that name no argument accepts elements, unless it is one of those excluded here
+-- an entry that accepts only types that name no argument accepts elements, unless it is of a kind excluded here
 pub takes-elements : (o : Open) → IsPassedClosed o → ((x : Bool) → o ≡ Open.Returned x → ⊥) → ((x : Bool) → o ≡ Open.Signature x → ⊥)
     → (o ≡ Open.Special → ⊥) → (o ≡ Open.Derived → ⊥) → ((x : ℕ) → o ≡ Open.Base x → ⊥) → (o ≡ Open.Enumerator → ⊥) → ((x : Mark) (y z : ℕ) → o ≡ Open.Enclosing x y z → ⊥)
     → ((x : Mark) (y t : ℕ) (z : Arguments) → o ≡ Open.EnclosingInstance x y t z → ⊥)

@@ -48,7 +48,7 @@ placed-last front bytes from to written from_is to_is = record {
 
 -- ## Candidates
 
--- candidates of one text are those of another if each of them is
+-- a list of candidates for one text is one for another text, if this is so for each candidate
 pub candidates-as : (s : Symbol) (scope other : Scope) (text new : List ℕ) → ((k : Candidate) (c : values.Candidate) → IsCandidate s scope text k c → IsCandidate s other new k c)
     → (ks : List Candidate) (cs : List values.Candidate) → AreCandidates s scope text ks cs → AreCandidates s other new ks cs
 candidates-as s scope other text new each [] [] p = tt
@@ -73,7 +73,7 @@ candidates-more text (x ∷ ks) [] k c p is = absurd p
 -- what is written from a place on becomes a candidate
 pub candidates-added : (s : Symbol) (scope : Scope) (text : List ℕ) (ks : List Candidate) (cs : List values.Candidate) (front bytes : List ℕ) (from : ℕ) (t : Term) (around : Around) (r d : Bool)
     → AreCandidates s scope text ks cs → text ≡ front ++ bytes → from ≡ length front → PrintsAs (detail_of s) scope.names d t bytes r
-    → (d ≡ true → IsMadeIn scope around.encoding)
+    → (d ≡ true → IsMadeIn scope around.encoding around.in_lambda)
     → AreCandidates s scope text (ks ++ record { from = from; to = length text; is_reference = r; is_dependent = d } ∷ []) (cs ++ candidate around t ∷ [])
 candidates-added s scope text ks cs front bytes from t around r d p written from_is prints made_in =
     candidates-more text ks cs (record { from = from; to = length text; is_reference = r; is_dependent = d }) (candidate around t) p (λ ordered. record {
@@ -122,7 +122,7 @@ keeps-as s {scope = scope} old new cs {text = text} text_is candidates_are scope
   unknown = λ none. unknown (sym scope_same ∙ none);
 }
 
--- what a writer keeps that has other candidates
+-- what a writer with other candidates keeps
 abbrev pub kept-as : (s : Symbol) (old new : Direct) (st : State) (kept : Kept s old) {ks : List Candidate} → new.text ≡ old.text
     → new.candidates.list.items ≡ ks → new.has_scope ≡ old.has_scope → AreCandidates s kept.scope old.text.list.items ks st.candidates → Kept s new
 kept-as s old new st kept text candidates scope_same are = record {
@@ -159,7 +159,7 @@ kept-read s old new bytes reads kept = kept-grown s old new bytes reads.text rea
 -- what is written from a place on became a candidate
 abbrev pub kept-with : (s : Symbol) (old new : Direct) (kept : Kept s old) (front bytes : List ℕ) (from : ℕ) (t : Term) (around : Around) (r d : Bool)
     → old.text.list.items ≡ front ++ bytes → from ≡ length front → PrintsAs (detail_of s) kept.scope.names d t bytes r
-    → (d ≡ true → IsMadeIn kept.scope around.encoding)
+    → (d ≡ true → IsMadeIn kept.scope around.encoding around.in_lambda)
     → new.text ≡ old.text → new.candidates.list.items ≡ added old from r d → new.has_scope ≡ old.has_scope → Kept s new
 kept-with s old new kept front bytes from t around r d written from_is prints made_in text added_is scope_same =
     kept-as s old new (with_candidate around t kept.state) kept text added_is scope_same
@@ -168,7 +168,7 @@ kept-with s old new kept front bytes from t around r d written from_is prints ma
 
 pub keeps-unless : (s : Symbol) (old new : Direct) (kept : Kept s old) (listed : Bool) (front bytes : List ℕ) (from : ℕ) (t : Term) (around : Around) (d : Bool)
     → old.text.list.items ≡ front ++ bytes → from ≡ length front → (listed ≡ false → PrintsAs (detail_of s) kept.scope.names d t bytes false)
-    → (d ≡ true → IsMadeIn kept.scope around.encoding)
+    → (d ≡ true → IsMadeIn kept.scope around.encoding around.in_lambda)
     → new.text ≡ old.text → new.candidates.list.items ≡ added_unless old listed from d → new.has_scope ≡ old.has_scope
     → Keeps s kept.scope new (unless_listed listed around t kept.state).candidates
 keeps-unless s old new kept true front bytes from t around d written from_is prints made_in text added_is scope_same =
@@ -176,10 +176,10 @@ keeps-unless s old new kept true front bytes from t around d written from_is pri
 keeps-unless s old new kept false front bytes from t around d written from_is prints made_in text added_is scope_same =
     (kept-with s old new kept front bytes from t around false d written from_is (prints refl) made_in text added_is scope_same).keeps
 
--- likewise unless it is a candidate already
+-- what is written from a place on became a candidate, unless it was one already
 abbrev pub kept-unless : (s : Symbol) (old new : Direct) (kept : Kept s old) (listed : Bool) (front bytes : List ℕ) (from : ℕ) (t : Term) (around : Around) (d : Bool)
     → old.text.list.items ≡ front ++ bytes → from ≡ length front → (listed ≡ false → PrintsAs (detail_of s) kept.scope.names d t bytes false)
-    → (d ≡ true → IsMadeIn kept.scope around.encoding)
+    → (d ≡ true → IsMadeIn kept.scope around.encoding around.in_lambda)
     → new.text ≡ old.text → new.candidates.list.items ≡ added_unless old listed from d → new.has_scope ≡ old.has_scope → Kept s new
 kept-unless s old new kept listed front bytes from t around d written from_is prints made_in text added_is scope_same = record {
   state = unless_listed listed around t kept.state;
@@ -187,9 +187,9 @@ kept-unless s old new kept listed front bytes from t around d written from_is pr
   keeps = keeps-unless s old new kept listed front bytes from t around d written from_is prints made_in text added_is scope_same;
 }
 
--- the text of an argument that may be named became a candidate, which names it
+-- the text of an argument that may be named became a candidate, which names the argument
 abbrev pub kept-argument : (s : Symbol) (old new : Direct) (kept : Kept s old) (p : Argument) (bytes : List ℕ) (t : Term) (around : Around)
-    → IsPlaced old.text.list.items p bytes → PrintsGiven (detail_of s) kept.scope.names t bytes p.is_reference → IsMadeIn kept.scope around.encoding
+    → IsPlaced old.text.list.items p bytes → PrintsGiven (detail_of s) kept.scope.names t bytes p.is_reference → IsMadeIn kept.scope around.encoding around.in_lambda
     → new.text ≡ old.text → new.candidates.list.items ≡ with_argument old p → new.has_scope ≡ old.has_scope → Kept s new
 kept-argument s old new kept p bytes t around placed prints made_in text added_is scope_same =
     kept-as s old new (with_candidate around t kept.state) kept text added_is scope_same
@@ -243,14 +243,14 @@ value-comes s w kept os t front bytes r d written prints waits naming comes stan
 -- a type that was read became a candidate
 pub value-added : (s : Symbol) (old new : Direct) (kept : Kept s old) (os : List Opened) (around : Around) (t : Term) (front bytes : List ℕ) (from : ℕ) (r d : Bool)
     {ws : List Open} → old.text.list.items ≡ front ++ bytes → from ≡ length front → PrintsAs (detail_of s) kept.scope.names d t bytes r
-    → (d ≡ true → IsMadeIn kept.scope around.encoding) → new.text ≡ old.text → new.candidates.list.items ≡ added old from r d → new.has_scope ≡ old.has_scope
+    → (d ≡ true → IsMadeIn kept.scope around.encoding around.in_lambda) → new.text ≡ old.text → new.candidates.list.items ≡ added old from r d → new.has_scope ≡ old.has_scope
     → reverse new.waiting.list.items ≡ ws → (d ≡ true → IsNaming kept.scope ws) → Comes s os (tree t true) new.at (with_candidate around t kept.state)
     → Stands s kept.scope ws os front → IsWriting s new (Step.Value r d)
 value-added s old new kept os around t front bytes from r d written from_is prints made_in text added_is scope_same waits naming comes stands =
     value-comes s new (kept-with s old new kept front bytes from t around r d written from_is prints made_in text added_is scope_same) os t front bytes r d
     (ap (λ v. v.list.items) text ∙ written) prints waits naming comes stands
 
--- types in an entry may name what types around it may name, if the entry is within a type, and otherwise nothing
+-- types in an entry within a type may name what types around the entry may name; types in any other entry name nothing
 pub scoped-within : (scope : Scope) (around : Around) (o : Open) (rest : List Open) → arguments_in o ≡ None
     → (is_within_type o ≡ true → IsScoped scope around rest) → IsScoped scope around (o ∷ rest)
 scoped-within scope around o rest none scoped a found = go (is_within_type o) refl found
@@ -264,10 +264,10 @@ pub encoded-here : (scope : Scope) (around : Around) (open_ : List Open) → IsS
     → (around.encoding ≡ scope.arguments.encoding) × (around.in_lambda ≡ false)
 encoded-here scope around open_ scoped naming = (scoped scope.arguments naming.0).1.0 naming.1
 
-pub made-here : (scope : Scope) (around : Around) (open_ : List Open) → IsScoped scope around open_ → IsNaming scope open_ → IsMadeIn scope around.encoding
-made-here scope around open_ scoped naming = ((encoded-here scope around open_ scoped naming).0, naming.1)
+pub made-here : (scope : Scope) (around : Around) (open_ : List Open) → IsScoped scope around open_ → IsNaming scope open_ → IsMadeIn scope around.encoding around.in_lambda
+made-here scope around open_ scoped naming = let here = encoded-here scope around open_ scoped naming in (here.0, naming.1, here.1)
 
--- a candidate with a text, which a substitution names, prints this text
+-- the candidate that a substitution names prints its text, if it has one
 pub candidate-found : {s : Symbol} {scope : Scope} (text : List ℕ) (ks : List Candidate) (cs : List values.Candidate) (n : ℕ) (k : Candidate)
     → AreCandidates s scope text ks cs → k.from ≤ k.to → slice_get ks n ≡ Some k → (c : values.Candidate) × (slice_get cs n ≡ Some c) × IsCandidate s scope text k c
 candidate-found text [] cs n k p ordered found = cc found
@@ -361,14 +361,14 @@ list-begins s old mid new ks kept owner front name t lists opening_ template wri
       );
     }
 
--- what was opened comes next, if there was memory
+-- a property of the step that was opened holds of the next step, if there was memory
 pub opened-so : (r : Option Step) (step : Step) (A : Type 0) (P : Step → Type 0) → IfSome r (λ next. (next ≡ step) × A) → (A → P step) → IfSome r P
 opened-so None step A P is goes = tt
 opened-so (Some next) step A P is goes = subst P (sym is.0) (goes is.1)
 
 -- ## What was written after a place is removed
 
--- a candidate of a text that ends within its front is a candidate of the front
+-- a candidate of a text is a candidate of the text's front if the candidate ends within the front
 pub candidate-kept : {s : Symbol} {scope : Scope} (text kept rest : List ℕ) (k : Candidate) (c : values.Candidate) → text ≡ kept ++ rest → IsCandidate s scope text k c
     → k.to ≤ length kept → IsCandidate s scope kept k c
 candidate-kept text kept rest k c is p within =
@@ -398,7 +398,7 @@ one-left hiding scope left text kept stay k n c (inr none) p ordered =
     let never : 1 ≤ 0 = subst (λ (m : Candidate). m.from ≤ m.to) none ordered in
     absurd (omega (arith, never))
 
--- If the candidates that stay are candidates of the new text, all are, once the others are nowhere.
+-- If the candidates that stay are candidates of the new text, so is the whole list once the others are nowhere.
 pub candidates-left : (s : Symbol) (hiding : Hiding) (scope left : Scope) (text kept : List ℕ)
     → ((k : Candidate) (c : values.Candidate) → Stays hiding k → IsCandidate s scope text k c → IsCandidate s left kept k c) → (ks ns : List Candidate) (cs : List values.Candidate)
     → AreLeft hiding ks ns → AreCandidates s scope text ks cs → AreCandidates s left kept ns cs

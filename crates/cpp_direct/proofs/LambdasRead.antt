@@ -1,6 +1,7 @@
 -- Lambdas: types in functions, and components of nested names.
-use Rattle.cpp_direct.proofs.AllGround.{◌≡◌, ◌≢◌, refl, ap, sym, ◌∙◌, subst, inl, inr, ℕ, ◌+◌, List, [], ◌∷◌, ◌++◌, length, reverse, true, false, Option, None, Some, arith, codes, append-nil, append_assoc, decimal, false≢true, after, arguments_of, closed, has_return_type, Kind, lambda, list, local_number, may_be_empty, nil, no_items, nothing_there, State, Term, tree, within, added, AwaitsFirst, AwaitsMemberFunction, AwaitsTypeName, below, detail_of, Direct, Holder, in_front_of_next, IsElementRead, IsLambdaOpened, IsLambdaParameterRead, IsLambdaRead, IsLed, IsNest, IsUnmarked, IsWriting, Kept, LambdaComes, LambdaWithin, list_of, Mark, nowhere, Prints, PrintsPiece, Purpose, Reads, Stands, Symbol, Writes, Comes, Discriminator, Expects, IsDiscriminatorAt, IsLambdaDigit, IsPieceAt, NestGoesOn, StandsAt, lambda_digits, lambda_ending, lambda_number, lambda_with, local_in, with_candidate, Open, Step, kept-grown, kept-read, kept-same, kept-written, reverse-last, type-comes, value-added, expects-empty, stands-join, list-with-none, all-in, next-prints, none-print, parameters-kept, none-scoped, is-no-mark, more-unmarked}
+use Rattle.cpp_direct.proofs.AllGround.{is_declaring, lambda_by, closed-lambda, ◌≡◌, ◌≢◌, refl, ap, sym, ◌∙◌, subst, inl, inr, ℕ, ◌+◌, List, [], ◌∷◌, ◌++◌, length, reverse, true, false, Option, None, Some, arith, codes, append-nil, append_assoc, decimal, false≢true, after, arguments_of, closed, has_return_type, Kind, lambda, list, local_number, may_be_empty, nil, no_items, nothing_there, State, Term, tree, within, added, AwaitsFirst, AwaitsMemberFunction, AwaitsTypeName, below, detail_of, Direct, Holder, in_front_of_next, IsElementRead, IsLambdaOpened, IsLambdaParameterRead, IsLambdaRead, IsLed, IsNest, IsUnmarked, IsWriting, Kept, LambdaComes, LambdaWithin, list_of, Mark, nowhere, Prints, PrintsPiece, Purpose, Reads, Stands, Symbol, Writes, Comes, Discriminator, Expects, IsDiscriminatorAt, IsLambdaDigit, IsPieceAt, NestGoesOn, StandsAt, lambda_digits, lambda_ending, lambda_number, lambda_with, local_in, with_candidate, Open, Step, kept-grown, kept-read, kept-same, kept-written, reverse-last, type-comes, value-added, expects-empty, stands-join, list-with-none, all-in, next-prints, none-print, parameters-kept, none-scoped, is-no-mark, more-unmarked}
 use Rattle.cpp_direct.proofs.AllRead.{item-comes, next-written, some-elements, LambdaOpened, first-lambda-opens, lambda-opens, lambda-piece, lambda_bytes, number-is, classless-nest, closed-prints, enclosed-prints, lambda-list-prints, local-prints, component-prints}
+use Rattle.cpp_direct.proofs.PrintedFunctions.{closed-list}
 use Rattle.std.proofs.lemmas.Fmt.{decimal_digit}
 
 -- ## Their bytes
@@ -61,7 +62,7 @@ begun s old new from holder kept h written made first becomes entry =
             scoped = g.scoped;
             awaits = g.awaits;
             onward = λ l there then_ last number end is ending ends_.
-                becomes (lambda_with (list t (no_items l)) number) end then_ (g.onward l there then_ last number end is ending ends_);
+                becomes (lambda_with s.is_wide (list t (no_items l)) number) end then_ (g.onward l there then_ last number end is ending ends_);
           },
     ) in
     type-comes s new new (kept-grown s old new lambda_front entry.text entry.candidates entry.scope kept) first.around first.inner refl refl refl waits
@@ -145,6 +146,12 @@ lambda-next s w last from holder p one =
 
 -- ## Their end
 
+-- types declare nothing
+list-undeclared : (ts : List Term) → is_declaring (list_of ts) ≡ false
+unfolding is_declaring
+list-undeclared [] = refl
+list-undeclared (t ∷ ts) = refl
+
 -- a lambda is read
 pub lambda-ended : (s : Symbol) (w : Direct) (next : ℕ) (pushed numbered new : Direct) (from : ℕ) (holder : Holder)
     (p : IsLambdaParameterRead s w from holder) → p.texts ≢ codes "void" → StandsAt s.bytes w.at (69 ∷ []) → next ≡ w.at + 1
@@ -160,7 +167,8 @@ lambda-ended s w next pushed numbered new from holder p apart ends at one number
     let n = local_number (lambda_digits number) in
     let ended_ : becomes items w.at p.state = subst (λ u. becomes u w.at p.state) (list-with-none p.ts)
     (p.goes.onward nothing_there w.at p.state (expects-empty s Kind.Items p.goes.around p.goes.inner w.at p.state p.goes.awaits refl)) in
-    let same : lambda items n ≡ lambda_with items number = ap (λ k. lambda k n) (sym (parameters-kept (detail_of s) closed 0 p.ts p.texts (all-in (detail_of s) closed 0 p.ts p.texts p.elements) apart)) in
+    let same : lambda items n ≡ lambda_with s.is_wide items number =
+    sym (closed-lambda s.is_wide items n (list-undeclared p.ts) (closed-list (detail_of s) p.ts p.texts p.elements)) ∙ ap (λ k. lambda_by s.is_wide k n) (sym (parameters-kept (detail_of s) closed 0 p.ts p.texts (all-in (detail_of s) closed 0 p.ts p.texts p.elements) apart)) in
     let name : List ℕ = codes "{lambda(" ++ p.texts ++ codes ")#" ++ num ++ codes "}" in
     let place : pushed.at ≡ w.at + 1 = one.at ∙ at in
     let ending : StandsAt s.bytes w.at (lambda_ending number) =
@@ -169,13 +177,13 @@ lambda-ended s w next pushed numbered new from holder p apart ends at one number
       kept = kept-same s numbered new text candidates scope (kept-read s pushed numbered (num ++ codes "}") two
           (kept-written s (record w { at = next }) pushed (codes ")#") one (kept-same s w (record w { at = next }) refl refl refl p.kept)));
       has = p.has;
-      own = lambda_with items number;
+      own = lambda_with s.is_wide items number;
       name = name;
       prints = subst (λ u. PrintsPiece (detail_of s) u name) same
           (lambda-list-prints p.ts p.texts p.elements n num (number-text number is) (lambda-unmarked number is));
       returns = refl;
       written = ap (λ v. v.list.items) text ∙ two.text ∙ ap (λ l. l ++ (num ++ codes "}")) (one.text ∙ ap (λ l. l ++ codes ")#") p.written) ∙ simp append_assoc;
-      comes = subst (λ o. LambdaComes s holder (below s p.scope o) p.front p.e (lambda_with items number) new.at p.state) (sym waits)
+      comes = subst (λ o. LambdaComes s holder (below s p.scope o) p.front p.e (lambda_with s.is_wide items number) new.at p.state) (sym waits)
           (ended_ number new.at is ending (omega (arith, here, numbered_at, place)));
     }
 

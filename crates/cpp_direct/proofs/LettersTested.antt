@@ -1,12 +1,13 @@
--- What is computed for each letter of a list holds for one of them: letters with texts, codes of two letters, operators' codes.
-use Rattle.cpp_direct.proofs.Basics.{◌≡◌, ℕ, ◌<◌, List, [], ◌∷◌, Bool, true, false, ◌||◌, ◌&&◌, nat_eq, slice_get, Option, Some, None, refl, ap, sym, subst, ◌∙◌, ltb, ◌≢◌, ◌⊎◌, inl, inr, Ok, arith, false≢true, eqb-true, ltb-true, and_parts, alternatives, among, between, builtin_texts, choose, close, Continuation, Forest, found, in_ranges, is_chain, is_in, Kind, look_up, meaning, Naming, number_of, number_of_kind, opening, Operation, operator, operator_or_literal, operator_texts, parts_of, pick, Production, productions, same_bytes, integer_letters, State, Around, letter, piece, letter_of, part, same_choice, kept, Sym, unfolding_behind}
+-- A test that is computed for each item of a list holds of any one item: letters with texts, codes of two letters,
+-- operators' codes.
+use Rattle.cpp_direct.proofs.Basics.{close_by, ◌≡◌, ℕ, ◌<◌, List, [], ◌∷◌, Bool, true, false, ◌||◌, ◌&&◌, nat_eq, slice_get, Option, Some, None, refl, ap, sym, subst, ◌∙◌, ltb, ◌≢◌, ◌⊎◌, inl, inr, Ok, arith, false≢true, eqb-true, ltb-true, and_parts, alternatives, among, between, builtin_texts, choose, close, Continuation, Forest, found, in_ranges, is_chain, is_in, Kind, look_up, meaning, Naming, number_of, number_of_kind, opening, Operation, operator, operator_or_literal, operator_texts, parts_of, pick, Production, productions, same_bytes, integer_letters, State, Around, letter, piece, letter_of, part, same_choice, kept, Sym, unfolding_behind}
 
 -- each of the bytes passes a test
 unfoldable pub each_passes : (ℕ → Bool) → List ℕ → Bool
 each_passes test [] = true
 each_passes test (c ∷ cs) = test c && each_passes test cs
 
--- each byte among them passes the test
+-- each byte of the list passes the test
 pub tested : (cs : List ℕ) (test : ℕ → Bool) → each_passes test cs ≡ true → (byte : ℕ) → among cs byte ≡ true → test byte ≡ true
 unfolding among each_passes
 tested [] test all byte is = absurd (false≢true is)
@@ -110,39 +111,40 @@ second_kind Production.OperatorI = Some Kind.OperatorAfterI
 second_kind Production.OperatorG = Some Kind.OperatorAfterG
 second_kind _ = None
 
--- A production takes the first letter of an operator, and its one part is of the kind of the second.
+-- A production takes the first letter of an operator, and the production's one part is of the kind of the second
+-- letter.
 pub record TakesFirst (p : Production) (kind : Kind) : Type 0 where
   pub parts : parts_of p ≡ Sym.Kind (number_of_kind kind) ∷ []
   pub chain : is_chain p ≡ false
   pub begins : (f : Forest) (at : ℕ) (st : State) → opening p f at st ≡ Ok st
   pub passes : (around : Around) (at : ℕ) (st : State)
       → ◌≡◌ {A = Continuation} (between p around at [] st) (Ok (record { context = around; values = []; state = st }))
-  pub closes : (first second : ℕ) (around : Around) (at : ℕ) (before st : State)
-      → close p first around at before (letter second ∷ []) st ≡ Ok (found (piece (operator first second)) st)
+  pub closes : (is_wide : Bool) (first second : ℕ) (around : Around) (at : ℕ) (before st : State)
+      → close_by p is_wide first around at before (letter second ∷ []) st ≡ Ok (found (piece (operator first second)) st)
 
 first-so : (p : Production) {kind other : Kind} → Some kind ≡ Some other → parts_of p ≡ Sym.Kind (number_of_kind kind) ∷ [] → is_chain p ≡ false
     → ((f : Forest) (at : ℕ) (st : State) → opening p f at st ≡ Ok st) → ((around : Around) (at : ℕ) (st : State)
     → ◌≡◌ {A = Continuation} (between p around at [] st) (Ok (record { context = around; values = []; state = st })))
-    → ((first second : ℕ) (around : Around) (at : ℕ) (before st : State)
-    → close p first around at before (letter second ∷ []) st ≡ Ok (found (piece (operator first second)) st)) → TakesFirst p other
+    → ((is_wide : Bool) (first second : ℕ) (around : Around) (at : ℕ) (before st : State)
+    → close_by p is_wide first around at before (letter second ∷ []) st ≡ Ok (found (piece (operator first second)) st)) → TakesFirst p other
 first-so p {kind = kind} {other = other} same parts chain begins passes closes =
     subst (λ k. TakesFirst p k) (cc same) (record { parts = parts; chain = chain; begins = begins; passes = passes; closes = closes })
 
 takes-first : (p : Production) (kind : Kind) → second_kind p ≡ Some kind → TakesFirst p kind
 unfolding second_kind number_of_kind parts_of is_chain opening between close unfolding_behind meaning operator_or_literal letter_of part
-takes-first Production.OperatorN kind is = first-so Production.OperatorN is refl refl (λ f at st. refl) (λ a at st. refl) (λ b c a at d st. refl)
-takes-first Production.OperatorD kind is = first-so Production.OperatorD is refl refl (λ f at st. refl) (λ a at st. refl) (λ b c a at d st. refl)
-takes-first Production.OperatorA kind is = first-so Production.OperatorA is refl refl (λ f at st. refl) (λ a at st. refl) (λ b c a at d st. refl)
-takes-first Production.OperatorP kind is = first-so Production.OperatorP is refl refl (λ f at st. refl) (λ a at st. refl) (λ b c a at d st. refl)
-takes-first Production.OperatorC kind is = first-so Production.OperatorC is refl refl (λ f at st. refl) (λ a at st. refl) (λ b c a at d st. refl)
-takes-first Production.OperatorM kind is = first-so Production.OperatorM is refl refl (λ f at st. refl) (λ a at st. refl) (λ b c a at d st. refl)
-takes-first Production.OperatorR kind is = first-so Production.OperatorR is refl refl (λ f at st. refl) (λ a at st. refl) (λ b c a at d st. refl)
-takes-first Production.OperatorO kind is = first-so Production.OperatorO is refl refl (λ f at st. refl) (λ a at st. refl) (λ b c a at d st. refl)
-takes-first Production.OperatorE kind is = first-so Production.OperatorE is refl refl (λ f at st. refl) (λ a at st. refl) (λ b c a at d st. refl)
-takes-first Production.OperatorL kind is = first-so Production.OperatorL is refl refl (λ f at st. refl) (λ a at st. refl) (λ b c a at d st. refl)
-takes-first Production.OperatorS kind is = first-so Production.OperatorS is refl refl (λ f at st. refl) (λ a at st. refl) (λ b c a at d st. refl)
-takes-first Production.OperatorI kind is = first-so Production.OperatorI is refl refl (λ f at st. refl) (λ a at st. refl) (λ b c a at d st. refl)
-takes-first Production.OperatorG kind is = first-so Production.OperatorG is refl refl (λ f at st. refl) (λ a at st. refl) (λ b c a at d st. refl)
+takes-first Production.OperatorN kind is = first-so Production.OperatorN is refl refl (λ f at st. refl) (λ a at st. refl) (λ w b c a at d st. refl)
+takes-first Production.OperatorD kind is = first-so Production.OperatorD is refl refl (λ f at st. refl) (λ a at st. refl) (λ w b c a at d st. refl)
+takes-first Production.OperatorA kind is = first-so Production.OperatorA is refl refl (λ f at st. refl) (λ a at st. refl) (λ w b c a at d st. refl)
+takes-first Production.OperatorP kind is = first-so Production.OperatorP is refl refl (λ f at st. refl) (λ a at st. refl) (λ w b c a at d st. refl)
+takes-first Production.OperatorC kind is = first-so Production.OperatorC is refl refl (λ f at st. refl) (λ a at st. refl) (λ w b c a at d st. refl)
+takes-first Production.OperatorM kind is = first-so Production.OperatorM is refl refl (λ f at st. refl) (λ a at st. refl) (λ w b c a at d st. refl)
+takes-first Production.OperatorR kind is = first-so Production.OperatorR is refl refl (λ f at st. refl) (λ a at st. refl) (λ w b c a at d st. refl)
+takes-first Production.OperatorO kind is = first-so Production.OperatorO is refl refl (λ f at st. refl) (λ a at st. refl) (λ w b c a at d st. refl)
+takes-first Production.OperatorE kind is = first-so Production.OperatorE is refl refl (λ f at st. refl) (λ a at st. refl) (λ w b c a at d st. refl)
+takes-first Production.OperatorL kind is = first-so Production.OperatorL is refl refl (λ f at st. refl) (λ a at st. refl) (λ w b c a at d st. refl)
+takes-first Production.OperatorS kind is = first-so Production.OperatorS is refl refl (λ f at st. refl) (λ a at st. refl) (λ w b c a at d st. refl)
+takes-first Production.OperatorI kind is = first-so Production.OperatorI is refl refl (λ f at st. refl) (λ a at st. refl) (λ w b c a at d st. refl)
+takes-first Production.OperatorG kind is = first-so Production.OperatorG is refl refl (λ f at st. refl) (λ a at st. refl) (λ w b c a at d st. refl)
 takes-first (Production.Operation Operation.ExpressionC) kind is = cc is
 takes-first _ kind is = cc is
 
@@ -184,7 +186,7 @@ is_component first second = (nat_eq first 99 && is_mark (choose Kind.OperatorAft
 is_code : ℕ → ℕ → Bool
 is_code first second = ((is_byte first && is_byte second) && is_code_by (choose Kind.Operator first) second) && is_component first second
 
--- The two letters are read as that operator.
+-- The two letters are read as the code of an operator.
 pub record IsOperator (first second : ℕ) : Type 0 where
   pub production : Production
   pub kind : Kind

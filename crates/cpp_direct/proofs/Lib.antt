@@ -41,7 +41,6 @@ pub mod PrintedTypes
 pub mod Scopes
 pub mod ShortNumbers
 pub mod Signatures
-pub mod Tables
 pub mod TypesRead
 pub mod Unmarked
 pub mod VisibleTexts

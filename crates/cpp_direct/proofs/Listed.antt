@@ -59,7 +59,7 @@ element-goes-on s kind scoped closes ts t before at earlier st goes g = (
       (goes.5 (tree (list t (no_items l)) true) there now (g.onward l there now comes) ended),
 )
 
--- a list is open still where more is written
+-- a list stays open when more is written
 abbrev pub listing-stays : {detail : Detail} {names : Names} {opened : List Open} {text : List ℕ} (now : List Open) (more later : List ℕ) (p : IsListing detail names opened text)
     → now ≡ opened → later ≡ text ++ more → IsListing detail names now later
 listing-stays {detail} {names} {text = text} now more later p open_is is = record {
@@ -87,7 +87,7 @@ in-front (t ∷ ts) l false none some = refl
 
 -- ## The end of arguments
 
--- The arguments of what was opened last are read and written.
+-- The arguments of the innermost entry are read and written.
 pub record IsClosed (s : Symbol) (w : Direct) (owner : Open) : Type 0 where
   pub kept : Kept s w
   pub open kept use *
@@ -135,7 +135,7 @@ closed-by s old mid new x owner p writes same candidates scope_same at items is 
       known = subst (λ l. AreKnown (detail_of s) l new.argument p.ts p.tail) (sym text) (known-stay old.text.list.items (closing_bracket (detail_of s)) new.argument p.ts p.tail p.known);
     }
 
--- known elements are known arguments of what the list makes
+-- the known elements of the list are known arguments of the template's instance
 closed-arguments : (s : Symbol) (w : Direct) (owner : Open) (p : IsClosed s w owner)
     → HasArguments (detail_of s) w.text.list.items w.argument (instance p.template (list_with p.ts p.tail))
 unfolding arguments_of
@@ -266,7 +266,7 @@ name-closed s w from p =
 
 -- ## Between elements
 
--- What is read of a list is read of arguments, if the list is no pack.
+-- If the innermost entry is no pack, the elements of the list that were read are arguments of that entry.
 pub template-listed : (s : Symbol) (scope : Scope) (w : Direct) (st : State) (l : Listing) (owner : Open) (rest : List Open) (front : List ℕ) (template : Term)
     (name : List ℕ) (ts : List Term) (texts text : List ℕ) → ((others : List Open) → reverse w.waiting.list.items ≡ Open.Pack ∷ others → ⊥)
     → Belongs (detail_of s) scope.names l (reverse w.waiting.list.items) owner rest → PrintAllAs (detail_of s) scope.names (may_name l owner) (extra_of l) ts texts
@@ -282,7 +282,7 @@ pub no-pack : (w : Direct) (owner : Open) → slice_get w.waiting.list.items (le
     → (rest : List Open) → reverse w.waiting.list.items ≡ Open.Pack ∷ rest → ⊥
 no-pack w owner found other rest e = other (cc (sym (last-found w.waiting.list.items owner found).1 ∙ e))
 
--- The arguments of a name, which are no pack, end after their elements and this tail.
+-- If the list is no pack, the arguments of a name end after their elements and this tail.
 ended-so : (s : Symbol) (w : Direct) (first : Bool) (to : ℕ) (tail : Term) (argument : Arguments) → IsTail tail → (p : IsWriting s w (Step.List first))
     → ((rest : List Open) → reverse w.waiting.list.items ≡ Open.Pack ∷ rest → ⊥)
     → ((o : Open) (rest : List Open) (front : List ℕ) (template : Term) → ArgumentsGoOn s o (below s p.scope rest) front template p.is_before.1 w.at p.state
@@ -573,7 +573,7 @@ waits-of s scope owner rest os text p = record {
   onward = p.8;
 }
 
--- open entries that accept an element, and wait, are a list
+-- open entries that accept an element, and wait for one, form a list
 pub list-waits : (s : Symbol) {scope : Scope} (o : Open) (rest : List Open) (os : List Opened) (text : List ℕ) → TakesElements o
     → Stands s scope (o ∷ rest) os text → ListWaits s scope (o ∷ rest) os text
 list-waits s Open.Pack [] os text takes p = absurd p

@@ -5,7 +5,7 @@ use Rattle.cpp_direct.proofs.FunctionsWithin.{items-scoped, led-read, plain-awai
 
 -- ## The entity
 
--- after the qualifiers expects the entity
+-- expects the entity after the qualifiers
 pub member-begins : (s : Symbol) (old shut : Direct) (first : ℕ) (place : MarkPlace) → AwaitsEntity s old false → StandsAt s.bytes old.at (78 ∷ [])
     → StandsAt s.bytes 2 (90 ∷ []) → first ≡ old.at + 1 → IsMarkPlace s.bytes first place
     → shut.text ≡ old.text → AreLeft Hiding.Dependent old.candidates.list.items shut.candidates.list.items
@@ -79,7 +79,7 @@ call-component s old new stands at reads = (
   reads,
 )
 
--- the name of a member function is read: expects the parameters
+-- expects the parameters once the name of a member function is read
 pub function-named : (s : Symbol) (old kept_ pushed read : Direct) (end : ℕ) (mark : Mark) (a : AwaitsMemberFunction s old mark) → Lists old kept_ (added old 0 false false)
     → Writes kept_ pushed (codes "::") → (p : Term) (n : List ℕ) → IsComponentAt s pushed.at p read.at → PrintsPiece (detail_of s) p n → Reads pushed read n
     → StandsAt s.bytes read.at (69 ∷ []) → end ≡ read.at + 1 → AwaitsMemberParameters s (record read { at = end }) mark

@@ -1,11 +1,11 @@
 -- The moves of a reader that goes from left to right: a rule opens, its next part is expected, and the rule closes.
-use Rattle.cpp_direct.proofs.Basics.{◌≡◌, ℕ, ◌+◌, ◌<◌, List, [], ◌∷◌, ◌++◌, length, slice_get, true, not, Some, Result, Ok, Err, refl, ap, subst, ◌∙◌, Bool, false, ◌&&◌, Option, sym, arith, if◌then◌else◌, after, alone, alternatives, among, AreTrees, between, byte_of, choose, close, Continuation, cpp, extended, Forest, Found, found, grown, in_ranges, is_chain, is_in, IsTree, Kind, kinds, may_be_empty, named_so_far, Next, nothing, number_of, number_of_kind, NumberKind, opening, parts_of, pick, Production, Refusal, rule_of, spell_all, standing, Sym, symbols_of, TakesRule, Term, Tree, unfold_forest, unfold_tree, wide_alternatives, wide_choose, ◌>>=◌, State, Around, Value, nothing_there, tree, outermost, Symbol, table_by, cpp_language, Awaits, Opened, opened, ReadsRest, StandsAt, Comes, Needs, ExpectsSym, Expects, IsNameAt, IsNumberAt, false≢true, and_parts, not-true, Token, bytes_of, IsNumberToken}
+use Rattle.cpp_direct.proofs.Basics.{cpp_by, close_by, ◌≡◌, ℕ, ◌+◌, ◌<◌, List, [], ◌∷◌, ◌++◌, length, slice_get, true, not, Some, Result, Ok, Err, refl, ap, subst, ◌∙◌, Bool, false, ◌&&◌, Option, sym, arith, if◌then◌else◌, after, alone, alternatives, among, AreTrees, between, byte_of, choose, Continuation, extended, Forest, Found, found, grown, in_ranges, is_chain, is_in, IsTree, Kind, kinds, may_be_empty, named_so_far, Next, nothing, number_of, number_of_kind, NumberKind, opening, parts_of, pick, Production, Refusal, rule_of, spell_all, standing, Sym, symbols_of, TakesRule, Term, Tree, unfold_forest, unfold_tree, wide_alternatives, wide_choose, ◌>>=◌, State, Around, Value, nothing_there, tree, outermost, Symbol, table_by, cpp_language, Awaits, Opened, opened, ReadsRest, StandsAt, Comes, Needs, ExpectsSym, Expects, IsNameAt, IsNumberAt, false≢true, and_parts, not-true, Token, bytes_of, IsNumberToken}
 use Rattle.cpp_grammar.specs.Values.{text}
 use Rattle.cpp_grammar.proofs.ClosedTrees.{at_number, its_symbols}
-use Rattle.cpp_direct.proofs.Tables.{takes-by, empty-by, names-by, arguments-by, tails-by, item-by, first-by}
+use Rattle.cpp_short_reading.proofs.Tables.{takes-by, empty-by, names-by, arguments-by, tails-by, item-by, first-by}
 use Rattle.cpp_direct.proofs.LettersTested.{is_small, small, takes, taken}
 use Rattle.sym_shape.specs.declared.rule.Sym.TheVariants.{Kind as OfKind, Name, Number, Byte}
-use Rattle.cpp_direct.proofs.Tables as tables
+use Rattle.cpp_short_reading.proofs.Tables as tables
 use Rattle.sym_direct.specs.Holes as direct
 use Rattle.sym_direct.proofs.Moves as moves
 pub use Rattle.sym_direct.proofs.Moves.{stands-join, stands-none, stands-split}
@@ -39,10 +39,10 @@ comes-moved s os v at to st same = subst (λ k. Comes s os v k st) same
 
 -- ## Rules
 
-begins-so : (p : Production) (taken : List ℕ) (around : Around) (at : ℕ) (st : State) → ((f : Forest) → opening p f at st ≡ Ok st) → (f : Forest)
-    → cpp.begin (standing (rule_of p) taken at around st) f ≡ Ok st
-unfolding cpp
-begins-so p taken around at st begins f = ap (λ q. opening q f at st) (at_number p) ∙ begins f
+begins-so : (s : Symbol) (p : Production) (taken : List ℕ) (around : Around) (at : ℕ) (st : State) → ((f : Forest) → opening p f at st ≡ Ok st) → (f : Forest)
+    → (cpp_by s.is_wide).begin (standing (rule_of p) taken at around st) f ≡ Ok st
+unfolding cpp_by
+begins-so s p taken around at st begins f = ap (λ q. opening q f at st) (at_number p) ∙ begins f
 
 -- a kind takes a production: the production's rule is open
 pub opens-by : (s : Symbol) (kind : Kind) (p : Production) (taken : List ℕ) (around : Around) (os : List Opened) (at : ℕ) (st : State)
@@ -50,14 +50,14 @@ pub opens-by : (s : Symbol) (kind : Kind) (p : Production) (taken : List ℕ) (a
     → Expects s kind around os at st → StandsAt s.bytes at taken → Needs s os (standing (rule_of p) taken at around st) [] (parts_of p) (at + length taken) st
 opens-by s kind p taken around os at st takes begins expects stands =
     subst (λ l. Needs s os (standing (rule_of p) taken at around st) [] l (at + length taken) st) (its_symbols p)
-    (moves.opens (cpp_language s) s.bytes (number_of_kind kind) (rule_of p) taken around os at st st takes (begins-so p taken around at st begins) expects stands)
+    (moves.opens (cpp_language s) s.bytes (number_of_kind kind) (rule_of p) taken around os at st st takes (begins-so s p taken around at st begins) expects stands)
 
 -- likewise where the opening of the production succeeds, whatever parts are in the symbol
 pub opens-where : (s : Symbol) (kind : Kind) (p : Production) (byte : ℕ) (taken : List ℕ) (around : Around) (os : List Opened) (at : ℕ) (st : State)
     → choose kind byte ≡ Some p → byte < 256 → taken ≡ (if not (is_chain p) then byte ∷ [] else [])
     → ((f : Forest) → AreTrees (table_by s.is_wide) (parts_of p) f → StandsAt s.bytes (at + length taken) (spell_all f) → opening p f at st ≡ Ok st)
     → Expects s kind around os at st → StandsAt s.bytes at taken → Needs s os (standing (rule_of p) taken at around st) [] (parts_of p) (at + length taken) st
-unfolding cpp
+unfolding cpp_by
 opens-where s kind p byte taken around os at st chosen small takes begins expects stands =
     subst (λ l. Needs s os (standing (rule_of p) taken at around st) [] l (at + length taken) st) (its_symbols p)
     (moves.opens-where (cpp_language s) s.bytes (number_of_kind kind) (rule_of p) taken around os at st st (takes-it s kind p byte taken chosen small takes)
@@ -68,18 +68,18 @@ unfoldable pub reads-rule : (s : Symbol) (kind : Kind) (p : Production) (byte : 
     (bytes : List ℕ) (vs : List Value) (w : Value)
     → choose kind byte ≡ Some p → byte < 256 → taken ≡ (if not (is_chain p) then byte ∷ [] else [])
     → (rest : ReadsRest s (standing (rule_of p) taken at around st) [] (symbols_of (rule_of p)) (at + length taken) bytes st vs inner)
-    → opening p rest.forest at st ≡ Ok st → close p (byte_of taken) around at st vs inner ≡ Ok (found w after)
+    → opening p rest.forest at st ≡ Ok st → close_by p s.is_wide (byte_of taken) around at st vs inner ≡ Ok (found w after)
     → direct.Reads (cpp_language s) s.bytes (OfKind (number_of_kind kind)) around at (taken ++ bytes) st (w ∷ []) after
-unfolding cpp
+unfolding cpp_by
 reads-rule s kind p byte taken around at st inner after bytes vs w chosen small takes rest begins closes =
     moves.reads-rule (cpp_language s) s.bytes (number_of_kind kind) (rule_of p) taken around at st st inner after bytes vs w
     (takes-it s kind p byte taken chosen small takes) rest (ap (λ q. opening q rest.forest at st) (at_number p) ∙ begins)
-    (ap (λ q. close q (byte_of taken) around at st vs inner) (at_number p) ∙ closes)
+    (ap (λ q. close_by q s.is_wide (byte_of taken) around at st vs inner) (at_number p) ∙ closes)
 
-pub goes-so : (p : Production) (taken : List ℕ) (at0 : ℕ) (around : Around) (before : State) (known : List Value) (st : State) (next : Next Value State Around)
-    → ◌≡◌ {A = Continuation} (between p around at0 known st) (Ok next) → cpp.between (standing (rule_of p) taken at0 around before) known st ≡ Ok next
-unfolding cpp
-goes-so p taken at0 around before known st next goes = ap (λ q. between q around at0 known st) (at_number p) ∙ goes
+pub goes-so : (s : Symbol) (p : Production) (taken : List ℕ) (at0 : ℕ) (around : Around) (before : State) (known : List Value) (st : State) (next : Next Value State Around)
+    → ◌≡◌ {A = Continuation} (between p around at0 known st) (Ok next) → (cpp_by s.is_wide).between (standing (rule_of p) taken at0 around before) known st ≡ Ok next
+unfolding cpp_by
+goes-so s p taken at0 around before known st next goes = ap (λ q. between q around at0 known st) (at_number p) ∙ goes
 
 -- a part of a production is read, and then the parts after it
 unfoldable pub joins : (s : Symbol) (p : Production) (taken : List ℕ) (at0 : ℕ) (around : Around) (before : State) (known : List Value) (x : Sym)
@@ -92,7 +92,7 @@ unfoldable pub joins : (s : Symbol) (p : Production) (taken : List ℕ) (at0 : �
 joins s p taken at0 around before known x todo at st context values state after inner v first more vs goes one rest =
     moves.joins (cpp_language s) s.bytes (standing (rule_of p) taken at0 around before) known x todo at st
     (record { context = context; values = values; state = state }) after inner v first more vs
-    (goes-so p taken at0 around before known st (record { context = context; values = values; state = state }) goes) one rest
+    (goes-so s p taken at0 around before known st (record { context = context; values = values; state = state }) goes) one rest
 
 -- no part of the rule remains to be read
 unfoldable pub none-left : (s : Symbol) (p : Production) (taken : List ℕ) (at0 : ℕ) (around : Around) (before : State) (known : List Value) (at : ℕ) (st : State)
@@ -108,23 +108,23 @@ pub needs-next : (s : Symbol) (p : Production) (taken : List ℕ) (at0 : ℕ) (a
 needs-next s p taken at0 around before known x todo os at st context values state goes needs =
     moves.needs-next (cpp_language s) s.bytes (standing (rule_of p) taken at0 around before) known x todo os at st
     (record { context = context; values = values; state = state })
-    (goes-so p taken at0 around before known st (record { context = context; values = values; state = state }) goes) needs
+    (goes-so s p taken at0 around before known st (record { context = context; values = values; state = state }) goes) needs
 
-closed-so : (p : Production) (taken : List ℕ) (at0 : ℕ) (around : Around) (before : State) (known : List Value) (st : State) (w : Value)
+closed-so : (s : Symbol) (p : Production) (taken : List ℕ) (at0 : ℕ) (around : Around) (before : State) (known : List Value) (st : State) (w : Value)
     (after : State)
-    → close p (byte_of taken) around at0 before known st ≡ Ok (found w after)
-    → cpp.close (standing (rule_of p) taken at0 around before) known st ≡ Ok (found w after)
-unfolding cpp
-closed-so p taken at0 around before known st w after e = ap (λ q. close q (byte_of taken) around at0 before known st) (at_number p) ∙ e
+    → close_by p s.is_wide (byte_of taken) around at0 before known st ≡ Ok (found w after)
+    → (cpp_by s.is_wide).close (standing (rule_of p) taken at0 around before) known st ≡ Ok (found w after)
+unfolding cpp_by
+closed-so s p taken at0 around before known st w after e = ap (λ q. close_by q s.is_wide (byte_of taken) around at0 before known st) (at_number p) ∙ e
 
 -- a rule whose parts are all known closes
 pub ends : (s : Symbol) (p : Production) (taken : List ℕ) (at0 : ℕ) (around : Around) (before : State) (known : List Value) (os : List Opened)
     (at : ℕ) (st : State) (w : Value) (after : State)
     → Needs s os (standing (rule_of p) taken at0 around before) known [] at st
-    → close p (byte_of taken) around at0 before known st ≡ Ok (found w after) → Comes s os w at after
+    → close_by p s.is_wide (byte_of taken) around at0 before known st ≡ Ok (found w after) → Comes s os w at after
 ends s p taken at0 around before known os at st w after needs closes =
     moves.ends (cpp_language s) s.bytes (standing (rule_of p) taken at0 around before) known os at st w after needs
-    (closed-so p taken at0 around before known st w after closes)
+    (closed-so s p taken at0 around before known st w after closes)
 
 -- Two rules that continue alike are closed alike: the reader handles both rules the same way up to the last part, and then closes
 -- them.
@@ -132,35 +132,35 @@ pub comes-alike : (s : Symbol) (os : List Opened) (p q : Production) (taken : Li
     (st now : State) (context : Around) (vs ws : List Value) (state : State)
     → ◌≡◌ {A = Continuation} (between p around at0 (v ∷ []) st) (Ok (record { context = context; values = vs; state = state }))
     → ◌≡◌ {A = Continuation} (between q around at0 (w ∷ []) now) (Ok (record { context = context; values = ws; state = state }))
-    → ((more : List Value) (end : State) → close p (byte_of taken) around at0 before (vs ++ more) end ≡ close q (byte_of taken) around at0 before (ws ++ more) end)
+    → ((more : List Value) (end : State) → close_by p s.is_wide (byte_of taken) around at0 before (vs ++ more) end ≡ close_by q s.is_wide (byte_of taken) around at0 before (ws ++ more) end)
     → Comes s (opened (standing (rule_of p) taken at0 around before) [] (x ∷ []) ∷ os) v at st
     → Comes s (opened (standing (rule_of q) taken at0 around before) [] (x ∷ []) ∷ os) w at now
-unfolding cpp
+unfolding cpp_by
 comes-alike s os p q taken at0 around before x v w at st now context vs ws state goes on closes comes bytes known end u later rest there closed =
     go rest.forest rest.shaped rest.spelled rest.unfolds
   where
     part_of : (y : Tree) → IsTree (table_by s.is_wide) x y → spell_all (grown y nothing) ≡ bytes → (r : Result (Found (List Value) State) Refusal)
-        → unfold_tree cpp context at y state ≡ r
+        → unfold_tree (cpp_by s.is_wide) context at y state ≡ r
         → ◌≡◌ {A = Result (Found (List Value) State) Refusal} (r >>= λ z. Ok (found (ws ++ z.value) z.state)) (Ok (found known end))
         → Comes s os u (at + length bytes) later
     part_of y shaped spelled (Err e) is same = cc same
     part_of y shaped spelled (Ok z) is same = comes bytes (vs ++ z.value) z.state u later
         (record { forest = grown y nothing; shaped = (shaped, tt); spelled = spelled; unfolds = rw (at_number p, goes, is) refl }) there
-        (ap (λ k. close k (byte_of taken) around at0 before (vs ++ z.value) z.state) (at_number p) ∙ closes z.value z.state
-        ∙ sym (ap (λ k. close k (byte_of taken) around at0 before (ws ++ z.value) z.state) (at_number q))
-        ∙ ap (λ (f : Found (List Value) State). cpp.close (standing (rule_of q) taken at0 around before) f.value f.state) (cc same) ∙ closed)
+        (ap (λ k. close_by k s.is_wide (byte_of taken) around at0 before (vs ++ z.value) z.state) (at_number p) ∙ closes z.value z.state
+        ∙ sym (ap (λ k. close_by k s.is_wide (byte_of taken) around at0 before (ws ++ z.value) z.state) (at_number q))
+        ∙ ap (λ (f : Found (List Value) State). (cpp_by s.is_wide).close (standing (rule_of q) taken at0 around before) f.value f.state) (cc same) ∙ closed)
 
     go : (f : Forest) → AreTrees (table_by s.is_wide) (x ∷ []) f → spell_all f ≡ bytes
-        → unfold_forest cpp (standing (rule_of q) taken at0 around before) (w ∷ []) at f now ≡ Ok (found known end) → Comes s os u (at + length bytes) later
+        → unfold_forest (cpp_by s.is_wide) (standing (rule_of q) taken at0 around before) (w ∷ []) at f now ≡ Ok (found known end) → Comes s os u (at + length bytes) later
     go nothing shaped spelled e = absurd shaped
     go (grown y nothing) shaped spelled e =
-        part_of y shaped.0 spelled (unfold_tree cpp context at y state) refl (sym (rw (at_number q, on) refl) ∙ e)
+        part_of y shaped.0 spelled (unfold_tree (cpp_by s.is_wide) context at y state) refl (sym (rw (at_number q, on) refl) ∙ e)
     go (grown y (grown z more)) shaped spelled e = absurd shaped.1
 
 -- a kind that may be empty denotes nothing
 pub expects-empty : (s : Symbol) (kind : Kind) (around : Around) (os : List Opened) (at : ℕ) (st : State)
     → Expects s kind around os at st → may_be_empty kind ≡ true → Comes s os nothing_there at st
-unfolding cpp
+unfolding cpp_by
 expects-empty s kind around os at st expects may =
     moves.expects-empty (cpp_language s) s.bytes (number_of_kind kind) around os at st expects
     (empty-by s.is_wide (number_of_kind kind) kind (kind-at kind) ∙ may)
@@ -192,7 +192,7 @@ pub hole-of : {s : Symbol} {kind : Kind} {around : Around} {at : ℕ} {st : Stat
     → Hole s (OfKind (number_of_kind kind)) around a.inner at st
 hole-of a = record { expects = a.awaits }
 
--- a hole expects its part, if the reader's continuation after that is known
+-- a hole expects its part, if the reader's continuation after this part is known
 pub awaited : {s : Symbol} {kind : Kind} {around : Around} {os : List Opened} {at : ℕ} {st : State} {Onward : List Opened → Type 0}
     → Hole s (OfKind (number_of_kind kind)) around os at st → Onward os → Awaits s kind around at st Onward
 awaited {os = os} h onward = record { inner = os; awaits = h.expects; onward = onward }
@@ -241,7 +241,7 @@ is_eater choice p byte = takes p choice && (is_small byte && (not (is_chain p) &
 unfoldable pub is_leaver : Option Production → Production → ℕ → Bool
 is_leaver choice p byte = takes p choice && (is_small byte && (is_chain p && is_untested p))
 
--- likewise by the ABI's grammar
+-- by the ABI's grammar, a production is taken at a byte, which it consumes
 unfoldable pub is_eaten : Kind → Production → ℕ → Bool
 unfolding is_eater takes is_small is_untested choose alternatives pick is_in in_ranges among is_chain number_of
 is_eaten kind p byte = is_eater (choose kind byte) p byte
@@ -276,7 +276,7 @@ leaves s kind p byte is =
       begins = begins-untested p third.1;
     }
 
--- likewise by the wide grammar
+-- by the wide grammar, a production is taken at a byte, which it consumes
 unfoldable pub is_eaten_widely : Kind → Production → ℕ → Bool
 unfolding is_eater takes is_small is_untested wide_choose wide_alternatives pick is_in in_ranges among is_chain number_of
 is_eaten_widely kind p byte = is_eater (wide_choose kind byte) p byte
@@ -325,7 +325,7 @@ chain-opens {s = s} {kind = kind} {p = p} {around = around} {os = os} {at = at} 
 -- a production without parts that takes its byte denotes a value
 pub byte-fills : {s : Symbol} {kind : Kind} {p : Production} {byte : ℕ} {around : Around} {os : List Opened} {at : ℕ} {st : State} {w : Value} {after : State}
     → Taken s kind p (byte ∷ []) → Hole s (OfKind (number_of_kind kind)) around os at st → StandsAt s.bytes at (byte ∷ [])
-    → parts_of p ≡ [] → close p byte around at st [] st ≡ Ok (found w after) → Filled s os w (at + 1) after
+    → parts_of p ≡ [] → close_by p s.is_wide byte around at st [] st ≡ Ok (found w after) → Filled s os w (at + 1) after
 unfolding byte_of
 byte-fills {s = s} {kind = kind} {p = p} {byte = byte} {around = around} {os = os} {at = at} {st = st} {w = w} {after = after} t h stands parts closes =
     record {
@@ -347,7 +347,7 @@ next-part {s = s} p {taken = taken} {at0 = at0} {around = around} {before = befo
 pub closes : {s : Symbol} (p : Production) {taken : List ℕ} {at0 : ℕ} {around : Around} {before : State} {known : List Value} {v : Value}
     {os : List Opened} {at : ℕ} {st : State} {w : Value} {after : State}
     → Filled s (opened (standing (rule_of p) taken at0 around before) known [] ∷ os) v at st
-    → close p (byte_of taken) around at0 before (known ++ v ∷ []) st ≡ Ok (found w after) → Filled s os w at after
+    → close_by p s.is_wide (byte_of taken) around at0 before (known ++ v ∷ []) st ≡ Ok (found w after) → Filled s os w at after
 closes {s = s} p {taken = taken} {at0 = at0} {around = around} {before = before} {known = known} {v = v} {os = os} {at = at} {st = st} {w = w} {after = after} f is =
     record { comes = ends s p taken at0 around before (known ++ v ∷ []) os at st w after f.comes is }
 
@@ -361,14 +361,14 @@ none-fills {s = s} {around = around} {os = os} {at = at} {st = st} kind h may = 
 -- a fixed byte fills its hole
 pub fixed-fills : {s : Symbol} {b : ℕ} {around : Around} {os : List Opened} {at : ℕ} {st : State} → Hole s (Byte b) around os at st
     → StandsAt s.bytes at (b ∷ []) → Filled s os nothing_there (at + 1) st
-unfolding cpp
+unfolding cpp_by
 fixed-fills {s = s} {b = b} {around = around} {os = os} {at = at} {st = st} h stands =
     record { comes = moves.expects-byte (cpp_language s) s.bytes b around os at st h.expects stands }
 
 -- a name fills its hole
 pub name-fills : {s : Symbol} {around : Around} {os : List Opened} {at : ℕ} {st : State} (name : List ℕ) (end : ℕ) → Hole s Name around os at st
     → IsNameAt s.bytes at name end → Filled s os (text name) end st
-unfolding cpp
+unfolding cpp_by
 name-fills {s = s} {around = around} {os = os} {at = at} {st = st} name end h is =
     let came : Filled s os (text is.token.own) (at + length (bytes_of is.token)) st = record {
       comes = moves.expects-token (cpp_language s) s.bytes Name around os at st is.token (text is.token.own) st h.expects
@@ -379,7 +379,7 @@ name-fills {s = s} {around = around} {os = os} {at = at} {st = st} name end h is
 -- a number of a kind fills its hole
 pub number-fills : {s : Symbol} {kind : NumberKind} {around : Around} {os : List Opened} {at : ℕ} {st : State} (t : Token) → Hole s (Number kind) around os at st
     → IsNumberToken kind t → StandsAt s.bytes at (bytes_of t) → Filled s os (text t.own) (at + length (bytes_of t)) st
-unfolding cpp
+unfolding cpp_by
 number-fills {s = s} {kind = kind} {around = around} {os = os} {at = at} {st = st} t h is stands = record {
   comes = moves.expects-token (cpp_language s) s.bytes (Number kind) around os at st t (text t.own) st h.expects
       (names-by s.is_wide (Number kind) t is) refl stands;
@@ -402,7 +402,7 @@ first-named around piece st first = ap (λ x. named_so_far around (extended x pi
 
 -- ## Kinds with more alternatives
 
--- where a kind with more trees is expected, so is a kind with fewer
+-- where a kind with more trees is expected, a kind with fewer trees is expected, too
 pub fewer : {s : Symbol} {x y : Sym} {around : Around} {os : List Opened} {at : ℕ} {st : State}
     → ((t : Tree) → IsTree (table_by s.is_wide) y t → IsTree (table_by s.is_wide) x t) → Hole s x around os at st → Hole s y around os at st
 fewer same h = record {
@@ -424,11 +424,11 @@ pub any-argument : (s : Symbol) (around : Around) (os : List Opened) (at : ℕ) 
 unfolding number_of_kind
 any-argument s around os at st expects bytes vs after read stands =
     let argument = item-by s.is_wide read.shape read.shaped in
-    expects bytes vs after (record { shape = argument.tree; shaped = argument.is; spelled = argument.spells ∙ read.spelled; unfolds = argument.says around at st ∙ read.unfolds }) stands
+    expects bytes vs after (record { shape = argument.tree; shaped = argument.is; spelled = argument.spells ∙ read.spelled; unfolds = argument.says s.is_wide around at st ∙ read.unfolds }) stands
 
 -- a type is the first type of a lambda
 pub any-first : (s : Symbol) (around : Around) (os : List Opened) (at : ℕ) (st : State) → Expects s Kind.FirstOfLambda around os at st → Expects s Kind.Item around os at st
 unfolding number_of_kind
 any-first s around os at st expects bytes vs after read stands =
     let first = first-by s.is_wide read.shape read.shaped in
-    expects bytes vs after (record { shape = first.tree; shaped = first.is; spelled = first.spells ∙ read.spelled; unfolds = first.says around at st ∙ read.unfolds }) stands
+    expects bytes vs after (record { shape = first.tree; shaped = first.is; spelled = first.spells ∙ read.spelled; unfolds = first.says s.is_wide around at st ∙ read.unfolds }) stands

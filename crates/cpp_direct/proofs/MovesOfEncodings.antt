@@ -1,6 +1,6 @@
 -- The moves in encodings and in whole symbols: a symbol begins and ends, with a suffix or without, an encoding has a name and
 -- items, and names are nested or not.
-use Rattle.cpp_direct.proofs.AllGround.{◌≡◌, ◌≢◌, ℕ, ◌+◌, ◌<◌, length, List, [], ◌∷◌, take, ◌++◌, Bool, true, false, nat_le, ◌||◌, ◌&&◌, cond, None, Some, Ok, refl, ap, sym, subst, ◌∙◌, arith, codes, length-append, AllByRecursion, zero-add, take-append_seam, nat_tests, take_all, adjusting, alone, alternatives, among, any_value, applied, between, by_table, byte_of, choose, clone, close, explicit_object, extended, first_around, first_state, first_tree, in_name, in_ranges, in_std, is_chain, is_in, Kind, lvalue_only, may_be_empty, meaning, named_so_far, non_virtual, number_of_kind, opening, operator, parts_of, pick, Production, RefQualifier, rule_of, rvalue_only, source, standing, StandsFor, Sym, SYMBOL, symbol, Term, thunk, unfold_cpp, State, outermost, Around, Value, nothing_there, letter, piece, tree, tree_of, qualifiers_of, ref_of, signed_of, signed_digits, is_there, mark_of, letter_of, part, piece_of, is_special_letter, is_suffix_byte, mangled_of, special_letters, Symbol, BaseOpened, Comes, EncodingOpened, Expects, GuardOpened, IsNameAt, IsOffsetAt, IsSuffix, Named, NestOpened, Opened, SpecialOpened, StandsAt, SymbolOpened, TableOpened, const_letter, cpp_language, nest_marks, opened, named-by, named-outside, operator-fills, integer-fills, stands-by, unfolding_behind}
+use Rattle.cpp_direct.proofs.AllGround.{unfold_by, ◌≡◌, ◌≢◌, ℕ, ◌+◌, ◌<◌, length, List, [], ◌∷◌, take, ◌++◌, Bool, true, false, nat_le, ◌||◌, ◌&&◌, cond, None, Some, Ok, refl, ap, sym, subst, ◌∙◌, arith, codes, length-append, AllByRecursion, zero-add, take-append_seam, nat_tests, take_all, adjusting, alone, alternatives, among, any_value, applied, between, by_table, byte_of, choose, clone, close, explicit_object, extended, first_around, first_state, first_tree, in_name, in_ranges, in_std, is_chain, is_in, Kind, lvalue_only, may_be_empty, meaning, named_so_far, non_virtual, number_of_kind, opening, operator, parts_of, pick, Production, RefQualifier, rule_of, rvalue_only, source, standing, StandsFor, Sym, SYMBOL, symbol, Term, thunk, State, outermost, Around, Value, nothing_there, letter, piece, tree, tree_of, qualifiers_of, ref_of, signed_of, signed_digits, is_there, mark_of, letter_of, part, piece_of, is_special_letter, is_suffix_byte, mangled_of, special_letters, Symbol, BaseOpened, Comes, EncodingOpened, Expects, GuardOpened, IsNameAt, IsOffsetAt, IsSuffix, Named, NestOpened, Opened, SpecialOpened, StandsAt, SymbolOpened, TableOpened, const_letter, cpp_language, nest_marks, opened, named-by, named-outside, operator-fills, integer-fills, stands-by, unfolding_behind}
 use Rattle.cpp_grammar.specs.Values.{text, text_of}
 use Rattle.cpp_direct.proofs.Moves.{awaited, digits-fill, Hole, Filled, hole, open_at, fill, filled-at, hole-at, chosen-byte, eats, eats-widely, leaves, is_eaten, is_eaten_widely, byte-opens, chain-opens, byte-fills, next-part, closes, none-fills, fixed-fills, name-fills, first-named, is_left, stands-split}
 use Rattle.cpp_direct.proofs.LettersTested.{each_passes, tested, IsOperator}
@@ -100,7 +100,7 @@ guard-opens s os around at st expects stands =
     let name = byte-opens (eats s Kind.SpecialAfterG q 86 refl) (other-expected s os around at st expects places.0) places.1 refl refl in
     awaited (hole-at (at + 2) name (omega arith)) (λ v here now comes. (closes Production.OtherSpecial (closes q (fill name v here now comes) refl) refl).comes)
 
--- in the wide grammar a clone begins with GT and its letter, and expects the encoding that it is a clone of
+-- in the wide grammar a clone begins with GT and its letter, and expects the encoding that was cloned
 pub clone-opens : (s : Symbol) (os : List Opened) (around : Around) (b at : ℕ) (st : State) → s.is_wide ≡ true → is_eaten Kind.CloneLetter Production.Mark b ≡ true
     → Expects s Kind.Encoding around os at st → StandsAt s.bytes at (71 ∷ 84 ∷ b ∷ []) → BaseOpened s os at (clone b) (at + 3) st
 unfolding is_eaten is_eaten_widely number_of_kind parts_of between close unfolding_behind meaning part byte_of tree_of text_of piece_of letter_of is_there
@@ -115,7 +115,8 @@ clone-opens s os around b at st wide is expects stands =
 
 -- ## Names
 
--- the parts of a nested name: it is const if its third part is present, and called on what its fourth says
+-- the parts of a nested name: the function is const if the third part is present, and the fourth part says what the
+-- function is called on
 nest-goes : (s : Symbol) (os : List Opened) (around : Around) (q r : Value) (at : ℕ) (st : State) (here : ℕ) (now : State)
     → Filled s (opened (standing (rule_of Production.NestedName) (78 ∷ []) at around st) (nothing_there ∷ nothing_there ∷ q ∷ [])
     (Sym.Kind (number_of_kind Kind.Nest) ∷ []) ∷ os) r here now
@@ -136,7 +137,7 @@ unfolding is_there
 quality-is true = refl
 quality-is false = refl
 
--- a nested name begins with an N, and its qualifiers after it; the H of a function with an explicit object is none of them
+-- a nested name begins with an N and its qualifiers, which exclude the H of a function with an explicit object
 nested-opens : (s : Symbol) (kind : Kind) (os : List Opened) (around : Around) (const : Bool) (on : RefQualifier) (at : ℕ) (st : State)
     → is_eaten kind Production.NestedName 78 ≡ true → on ≢ explicit_object → Expects s kind around os at st → StandsAt s.bytes at (nest_marks const on)
     → NestOpened s os around const on (at + length (nest_marks const on)) st
@@ -164,7 +165,7 @@ nested-opens s kind os around const on at st taken other expects stands = go on 
         next-part Production.NestedName (filled-at (at + 2) const_ (omega arith)) refl
     ref-awaited false there = next-part Production.NestedName (none-fills Kind.MaybeConst (const-awaited there) refl) refl
 
-    -- with the letter of a ref-qualifier, which is this byte
+    -- likewise with a ref-qualifier that has this letter
     referred : (byte : ℕ) → is_eaten Kind.MaybeRef Production.Mark byte ≡ true → StandsAt s.bytes at (78 ∷ (const_letter const ++ byte ∷ []))
         → NestOpened s os around const (mark_of (letter byte)) (at + length (78 ∷ (const_letter const ++ byte ∷ []))) st
     referred byte taken there =
@@ -314,9 +315,9 @@ symbol-expected s bytes vs end reads stands =
     ap (λ n. take n s.bytes) (zero-add (length bytes)) ∙ ap (take (length bytes)) stands.1 ∙ take-append_seam bytes stands.0 in
     subst (λ l. direct.Reads (cpp_language s) s.bytes (Sym.Kind SYMBOL) first_around 0 l first_state vs end) (sym front) reads
 
--- what was read is the symbol
+-- the tree that was read is what the symbol denotes
 symbol-read : (s : Symbol) (t : Term) (end : State) → Comes s [] (tree t true) (length s.bytes) end → StandsFor (mangled_of s) s.bytes (Ok t)
-unfolding unfold_cpp first_tree tree_of number_of_kind
+unfolding unfold_by first_tree tree_of number_of_kind
 symbol-read s t end reads =
     stands-by s.is_wide s.bytes reads.shape t reads.shaped (reads.spelled ∙ take_all (length s.bytes) s.bytes (omega arith)) (rw reads.unfolds refl)
 

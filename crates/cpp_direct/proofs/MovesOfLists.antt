@@ -1,9 +1,9 @@
--- The moves in lists of arguments and of items: arguments are opened and closed, and a list continues after each of its
--- elements, also after a member of an instance of a template.
+-- The moves in lists of arguments and of items: arguments are opened and closed. A list continues after each of its
+-- elements, also after a member of a template's instance.
 use Rattle.cpp_direct.proofs.Basics.{◌≡◌, ℕ, ◌+◌, ◌⊎◌, inl, inr, length, List, [], ◌∷◌, Bool, true, false, nat_eq, Ok, refl, ap, subst, arith, after, appended, applied, between, boolean, builtin, byte_of, close, Continuation, enclosed_argument, ends_arguments, extended, inside, integer, is_code, Kind, list, may_be_empty, meaning, no_items, number_of_kind, Operation, operation_by, operation_or_address, pack, parts_of, Production, rule_of, standing, Term, with_prefix, with_type, State, Around, signed, tree, tree_of, is_listed, signed_of, signed_digits, prefix_tree, prefix_listed, part, Value, is_there, letter_of, piece_of, outermost, integer_letters, is_integer_letter, Symbol, Awaits, AddressOpened, ArgumentsOpened, AwaitsElement, AwaitsElementAs, Comes, EnumeratorOpened, Expects, IsArgumentKind, IsDigitsAt, IsListKind, ListGoesOn, LiteralOpened, Opened, PackOpened, StandsAt, minus_sign, opened, unless_listed, with_candidate, IsNameAt, LevelOpened, template_named, Sym, unfolding_behind}
 use Rattle.cpp_grammar.specs.Values.{text_of, text}
 use Rattle.cpp_direct.proofs.LettersTested.{each_passes, tested}
-use Rattle.cpp_direct.proofs.Tables.{lists-by}
+use Rattle.cpp_short_reading.proofs.Tables.{lists-by}
 use Rattle.cpp_direct.proofs.Moves.{any-argument, awaited, comes-alike, fewer, hole-of, Hole, Filled, hole, open_at, fill, eats, leaves, is_eaten, byte-opens, chain-opens, byte-fills, next-part, closes, fixed-fills, is_left, stands-split, digits-fill, filled-at, hole-at, came, eats-widely, is_eaten_widely, name-fills, none-fills}
 
 -- ## Arguments
@@ -60,7 +60,7 @@ type-awaits : (s : Symbol) (kind : Kind) (os : List Opened) (around : Around) (a
     → AwaitsElement s kind os around at st
 type-awaits s kind os around at st e = record { inner = e.inner; awaits = any-argument s around e.inner at st e.awaits; onward = e.onward }
 
--- expects an element of a list of arguments or items, which is a type
+-- expects an element that is a type, in a list of arguments or of items
 pub element-awaits : (s : Symbol) (kind : Kind) (os : List Opened) (around : Around) (at : ℕ) (st : State)
     → IsListKind kind → Expects s kind around os at st → AwaitsElement s kind os around at st
 unfolding is_eaten is_left number_of_kind parts_of between close unfolding_behind meaning part byte_of tree_of text_of piece_of letter_of is_there
@@ -182,7 +182,7 @@ enumerator-opens s kind os around at st is expects stands =
 
 -- ## Addresses
 
--- the address of what an encoding names begins, as an argument
+-- an argument begins that is the address of what an encoding names
 pub address-opens : (s : Symbol) (os : List Opened) (around : Around) (at : ℕ) (st : State) → Expects s Kind.Argument around os at st
     → StandsAt s.bytes at (88 ∷ 97 ∷ 100 ∷ 76 ∷ 95 ∷ 90 ∷ []) → AddressOpened s os around (at + 6) st
 unfolding is_eaten number_of_kind parts_of between close unfolding_behind meaning part byte_of tree_of text_of piece_of letter_of is_there operation_by operation_or_address is_code
@@ -212,7 +212,7 @@ address-opens s os around at st expects stands =
 
 -- ## Members of instances of templates
 
--- a name that isn't looked up becomes a name so far
+-- a name that isn't looked up becomes the name so far
 named-so : (around : Around) (name : List ℕ) (at : ℕ) (st : State) → around.prefix ≡ outermost
     → ◌≡◌ {A = Continuation} (between Production.SimpleId around at (text name ∷ []) st)
     (Ok (record { context = after (template_named name) true around; values = tree (template_named name) true ∷ []; state = st }))

@@ -1,5 +1,5 @@
 -- The moves in the names of local entities and in guard variables.
-use Rattle.cpp_direct.proofs.AllGround.{◌≡◌, ℕ, ◌+◌, ◌-◌, ◌<◌, ◌≤◌, Ok, List, [], ◌∷◌, ◌++◌, length, Bool, true, false, cond, Option, None, Some, refl, ap, sym, subst, arith, append-nil, le-leb, after, alternatives, among, applied, AreDigitsOf, between, builtin, byte_of, choose, close, cpp, empty, extended, fixed, in_ranges, in_signature, is_chain, is_in, is_nil, is_void, Kind, lambda, last_token, list, listed_value, may_be_empty, meaning, named_so_far, nil, no_items, number_of_kind, number_tested, opening, padded, parameters, parts_of, pick, Production, rule_of, signature_with, source, standing, Term, token, with_type, within, Token, State, Around, outermost, named, nothing_there, tree, piece, tree_of, is_listed, qualifiers_of, ref_of, local_number, part, is_there, letter_of, piece_of, HasScope, ItemsGoOn, nowhere, short_numbers, Symbol, Comes, Discriminator, Expects, IsDiscriminatorAt, IsLambdaDigit, IsNameAt, IsNamedKind, IsPieceAt, LambdaEnds, LocalOpened, LocalTypeOpened, NestGoesOn, Opened, StandsAt, by_digit, by_digits, cpp_language, discriminator_value, lambda_digits, lambda_with, opened, unnumbered, NumberKind, none-known, goes-on, named-taken, empty-by, names-by, rests-by, unfolding_behind}
+use Rattle.cpp_direct.proofs.AllGround.{cpp_by, alone-closes, ◌≡◌, ℕ, ◌+◌, ◌-◌, ◌<◌, ◌≤◌, Ok, List, [], ◌∷◌, ◌++◌, length, Bool, true, false, cond, Option, None, Some, refl, ap, sym, subst, arith, append-nil, le-leb, after, alternatives, among, applied, AreDigitsOf, between, builtin, byte_of, choose, close, empty, extended, fixed, in_ranges, in_signature, is_chain, is_in, is_nil, is_void, Kind, lambda, last_token, list, listed_value, may_be_empty, meaning, named_so_far, nil, no_items, number_of_kind, number_tested, opening, padded, parameters, parts_of, pick, Production, rule_of, signature_with, source, standing, Term, token, with_type, within, Token, State, Around, outermost, named, nothing_there, tree, piece, tree_of, is_listed, qualifiers_of, ref_of, local_number, part, is_there, letter_of, piece_of, HasScope, ItemsGoOn, nowhere, short_numbers, Symbol, Comes, Discriminator, Expects, IsDiscriminatorAt, IsLambdaDigit, IsNameAt, IsNamedKind, IsPieceAt, LambdaEnds, LocalOpened, LocalTypeOpened, NestGoesOn, Opened, StandsAt, by_digit, by_digits, cpp_language, discriminator_value, lambda_digits, lambda_with, opened, unnumbered, NumberKind, none-known, goes-on, named-taken, empty-by, names-by, rests-by, unfolding_behind}
 use Rattle.cpp_grammar.specs.Values.{text, text_of}
 use Rattle.cpp_direct.proofs.ShortNumbers.{lambda-begins, tested}
 use Rattle.cpp_direct.proofs.MovesOfEncodings.{entity-nested}
@@ -156,7 +156,7 @@ lambda-read : (s : Symbol) (around : Around) (at : ℕ) (digits : List ℕ) (st 
     (piece (lambda nil (local_number digits)) ∷ []) st
 unfolding choose alternatives pick is_in in_ranges among is_chain parts_of rule_of padded number_of_kind between opening close unfolding_behind meaning
     last_token void-read reads-rule joins none-left moves.reads-rule moves.joins moves.none-left may_be_empty parameters is_void is_nil
-    signature_with no_items tree_of text_of part byte_of cpp
+    signature_with no_items tree_of text_of part byte_of cpp_by
 lambda-read s around at digits st are small =
     let p = Production.Lambda in
     let c = in_signature around in
@@ -180,7 +180,7 @@ lambda-read s around at digits st are small =
     (joins s p (108 ∷ []) at around st three (Number NumberKind.Decimal) [] (at + 1 + 1 + 0 + 1) st c three st st st (text digits ∷ [])
     (digits ++ 95 ∷ []) [] four refl
     (record { shape = token t; shaped = names-by s.is_wide (Number NumberKind.Decimal) t (record { bare = refl; digits = are; ends = refl }); spelled = refl; unfolds = refl })
-    (none-left s p (108 ∷ []) at around st four (at + 1 + 1 + 0 + 1 + length (digits ++ 95 ∷ [])) st))))) small refl
+    (none-left s p (108 ∷ []) at around st four (at + 1 + 1 + 0 + 1 + length (digits ++ 95 ∷ [])) st))))) small (alone-closes s.is_wide (local_number digits) st)
 
 digits-of : (digit : Option ℕ) → IsLambdaDigit digit → AreDigitsOf NumberKind.Decimal (lambda_digits digit)
 digits-of None is = (tt, tt)
@@ -249,7 +249,7 @@ pub record LambdaOpened (s : Symbol) (becomes : Term → (at : ℕ) → State �
   pub awaits : Expects s Kind.Item around inner at st
   pub onward : (t : Term) (at : ℕ) (st : State) → Comes s inner (tree t true) at st → ItemsGoOn s nowhere (LambdaEnds s becomes) (λ l. l) (t ∷ []) at st
 
--- where no argument is known, parameters name none
+-- where no argument is known, parameters name no arguments
 pub nowhere-scoped : (around : Around) → HasScope nowhere around
 nowhere-scoped around = (λ placed. absurd (placed refl), λ k single. absurd (none-known k single.0), λ e. cc e)
 
@@ -297,7 +297,7 @@ anonymous-opens s here above at st becomes short anonymous stands then_ =
                 let split = stands-split s.bytes to (69 ∷ []) (digits ++ 95 ∷ []) ending in
                 let numeral = next-part q (fixed-fills (next-part q (fill more l to later last) refl) split.0) refl in
                 let numbered = number-fills token_ numeral (record { bare = refl; digits = digits-of number is; ends = refl }) split.1 in
-                then_ (lambda_with (list t (no_items l)) number) end later (filled-at end (closes q numbered refl) (omega (arith, ends_)));
+                then_ (lambda_with s.is_wide (list t (no_items l)) number) end later (filled-at end (closes q numbered refl) (omega (arith, ends_)));
           };
     }
 

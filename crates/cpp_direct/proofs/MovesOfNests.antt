@@ -1,7 +1,7 @@
 -- The parts of a nested name and their tags are read one after another.
-use Rattle.cpp_direct.proofs.Basics.{◌≡◌, ℕ, ◌+◌, List, [], ◌∷◌, Ok, Some, true, false, refl, subst, arith, inl, inr, Bool, sym, slice_get, abbreviation, after, alone, appended, applied, between, byte_of, choose, close, constructor, counted_value, destructor, extended, found, in_std, inside, instance, is_chain, Kind, listed_so_far, meaning, named_so_far, no_items, number_of_kind, opening, operator, parts_of, Production, rule_of, source, standing, substituted, Term, with_prefix, with_tag, within, State, outermost, Around, Value, nothing_there, tree, piece, is_there, letter_of, part, piece_of, tree_of, prefix_tree, prefix_listed, is_abbreviated, IsConstructorDigit, IsDestructorDigit, Symbol, AwaitsArguments, AwaitsComponent, AwaitsInstance, Comes, Expects, IsFirstRest, IsNameAt, IsRest, IsSeqAt, IsTagAt, Named, NestGoesOn, NestNamed, Opened, SamePasses, StandsAt, bare_name, opened, unless_listed, with_candidate, le-leb, lt-ltb, NumberKind, unfolding_behind}
+use Rattle.cpp_direct.proofs.Basics.{named_by, close_by, ◌≡◌, ℕ, ◌+◌, List, [], ◌∷◌, Ok, Some, true, false, refl, subst, arith, inl, inr, Bool, sym, slice_get, abbreviation, after, alone, appended, applied, between, byte_of, choose, close, constructor, counted_value, destructor, extended, found, in_std, inside, instance, is_chain, Kind, listed_so_far, meaning, named_so_far, no_items, number_of_kind, opening, operator, parts_of, Production, rule_of, source, standing, Term, with_prefix, with_tag, within, State, outermost, Around, Value, nothing_there, tree, piece, is_there, letter_of, part, piece_of, tree_of, prefix_tree, prefix_listed, is_abbreviated, IsConstructorDigit, IsDestructorDigit, Symbol, AwaitsArguments, AwaitsComponent, AwaitsInstance, Comes, Expects, IsFirstRest, IsNameAt, IsRest, IsSeqAt, IsTagAt, Named, NestGoesOn, NestNamed, Opened, SamePasses, StandsAt, bare_name, opened, unless_listed, with_candidate, le-leb, lt-ltb, NumberKind, unfolding_behind}
 use Rattle.cpp_grammar.specs.Values.{Candidate, text_of}
-use Rattle.cpp_direct.proofs.Tables.{lists-by, rests-by}
+use Rattle.cpp_short_reading.proofs.Tables.{lists-by, rests-by}
 use Rattle.cpp_direct.proofs.Moves.{awaited, fewer, hole-of, stands-split, Hole, Filled, hole, open_at, fill, filled-at, eats, leaves, byte-opens, chain-opens, next-part, closes, name-fills, first-named, is_eaten, is_left, Taken, eats-widely, chosen-byte, byte-fills, fixed-fills, is_eaten_widely}
 use Rattle.cpp_direct.proofs.MovesOfTypes.{abbreviation-fills, substitution-fills}
 use Rattle.cpp_direct.proofs.LettersTested.{IsOperator}
@@ -65,7 +65,7 @@ nest-abbreviation s os around at st code expects here is =
 pub nest-substitution : (s : Symbol) (os : List Opened) (around : Around) (at : ℕ) (st : State) (digits : List ℕ) (end : ℕ) (c : Candidate)
     → Expects s Kind.Nest around os at st → StandsAt s.bytes at (83 ∷ []) → IsSeqAt s.bytes (at + 1) digits end
     → slice_get st.candidates (counted_value NumberKind.Seq36 digits) ≡ Some c
-    → ((place : ℕ) → substituted around place (Some c) st ≡ Ok (found (tree c.tree true) st)) → NestGoesOn s Kind.NestRestOrEnd os around c.tree true end st
+    → ((place : ℕ) → named_by s.is_wide around place (Some c) st ≡ Ok (found (tree c.tree true) st)) → NestGoesOn s Kind.NestRestOrEnd os around c.tree true end st
 nest-substitution s os around at st digits end c expects here is there so =
     nest-known s os around at st c.tree end expects here (λ inner h. substitution-fills digits end c there so h is)
 
@@ -204,7 +204,7 @@ nest-end s os around t listed at st expects stands =
 pub named-by : {s : Symbol} {os : List Opened} (p : Production) {taken : List ℕ} {at0 : ℕ} {around outer : Around} {before : State} {u : Term} {at : ℕ} {st : State}
     → Hole s (OfKind (number_of_kind Kind.MaybeArguments)) (after u false outer) (opened (standing (rule_of p) taken at0 around before) (tree u false ∷ []) [] ∷ os) at st
     → ((byte : ℕ) (here : Around) (began later : State) (v : Value)
-    → close p byte here at0 began (tree u false ∷ v ∷ []) later ≡ Ok (found (tree (applied u v) false) later)) → Named s os outer u at st
+    → close_by p s.is_wide byte here at0 began (tree u false ∷ v ∷ []) later ≡ Ok (found (tree (applied u v) false) later)) → Named s os outer u at st
 unfolding applied is_there tree_of
 named-by p {taken = taken} {around = around} {before = before} {u = u} h closed = record {
   inner = open_at h;
@@ -243,7 +243,7 @@ operator-fills {s = s} {around = around} {at = at} {st = st} kind {first = first
     let begun = chosen-byte s kind is.production first chosen is.small is.takes.chain is.takes.begins in
     let rest = byte-opens begun h two.0 is.takes.parts (is.takes.passes around at st) in
     let marked = chosen-byte s is.kind Production.Mark second is.marked is.small_second refl (λ f here now. refl) in
-    filled-at (at + 2) (closes is.production (byte-fills marked rest two.1 refl refl) (is.takes.closes first second around at st st)) (omega arith)
+    filled-at (at + 2) (closes is.production (byte-fills marked rest two.1 refl refl) (is.takes.closes s.is_wide first second around at st st)) (omega arith)
 
 -- an operator that begins with no c
 other-operator : (s : Symbol) (os : List Opened) (around : Around) (t : Term) (listed : Bool) (at : ℕ) (st : State) (first second : ℕ) (is : IsOperator first second)

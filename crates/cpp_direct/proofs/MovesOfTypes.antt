@@ -1,5 +1,5 @@
 -- Moves within types, arrays and function types: a byte or a name is read, and a type opens, or is accepted.
-use Rattle.cpp_direct.proofs.Basics.{eq-eqb, ◌≡◌, ℕ, ◌+◌, ◌-◌, List, [], ◌∷◌, slice_get, Bool, true, false, ◌&&◌, ◌||◌, not, nat_eq, Option, Some, None, Result, Ok, Err, refl, ap, subst, ◌∙◌, arith, length, abbreviation, after, alone, any_value, appended, applied, array, between, builtin, byte_of, close, Continuation, counted_value, extended, Found, found, in_std, instance, is_function_type, is_module, is_open, Kind, list, listed_value, may_be_empty, meaning, named_so_far, nil, number_of_kind, pack_length, packs_in, parts_of, pointer, Production, reference_to, Refusal, rule_of, signature_or, source, standing, substituted, Term, with_item, with_packs, with_type, with_unqualified, ◌>>=◌, State, outermost, Around, Value, nothing_there, tree, tree_of, is_listed, part, is_there, letter_of, piece_of, ref_of, signature, abbreviation_letters, builtin_letters, builtin_letters_with_d, is_abbreviated, is_builtin, is_builtin_with_d, Symbol, Awaits, ArrayOpened, Comes, Expects, FunctionOpened, IsNameAt, IsNamedKind, IsQualifiable, IsReferable, IsSeqAt, IsSizeAt, IsTyped, NameOpens, Opened, ParameterOpened, ReferenceOpened, SignatureGoesOn, StandsAt, TreeOpens, TreePasses, TypeNamed, TypeOpens, access_letters, as_const, opened, plain_function, reference, reference_letter, unless_listed, with_candidate, Access, NumberKind, Sym, unfolding_behind}
+use Rattle.cpp_direct.proofs.Basics.{named_by, close_by, ◌≡◌, ℕ, ◌+◌, ◌-◌, List, [], ◌∷◌, slice_get, Bool, true, false, Some, Ok, refl, ap, subst, ◌∙◌, arith, length, abbreviation, after, alone, any_value, appended, applied, array, between, builtin, byte_of, close, Continuation, counted_value, extended, found, in_std, instance, is_function_type, Kind, list, listed_value, may_be_empty, meaning, named_so_far, nil, number_of_kind, parts_of, pointer, Production, reference_to, rule_of, signature_or, source, standing, Term, with_item, with_type, with_unqualified, State, outermost, Around, Value, nothing_there, tree, tree_of, is_listed, part, is_there, letter_of, piece_of, ref_of, signature, abbreviation_letters, builtin_letters, builtin_letters_with_d, is_abbreviated, is_builtin, is_builtin_with_d, Symbol, Awaits, ArrayOpened, Comes, Expects, FunctionOpened, IsNameAt, IsNamedKind, IsQualifiable, IsReferable, IsSeqAt, IsSizeAt, IsTyped, NameOpens, Opened, ParameterOpened, ReferenceOpened, SignatureGoesOn, StandsAt, TreeOpens, TreePasses, TypeNamed, TypeOpens, access_letters, as_const, opened, plain_function, reference, reference_letter, unless_listed, with_candidate, Access, NumberKind, Sym, unfolding_behind}
 use Rattle.std.proofs.Math.Bool.{and-false, and-true}
 use Rattle.cpp_grammar.specs.Values.{Candidate, text, text_of}
 use Rattle.cpp_direct.proofs.Moves.{alone-arguments, awaited, comes-alike, hole-of, stands-split, Hole, Filled, hole, open_at, fill, filled-at, eats, leaves, is_eaten, is_left, byte-opens, chain-opens, byte-fills, next-part, closes, none-fills, name-fills, first-named, came, digits-fill}
@@ -22,7 +22,7 @@ unfolding close unfolding_behind meaning listed_value with_type with_unqualified
 qualified-closes around at before t true st other = rw other refl
 qualified-closes around at before t false st other = rw other refl
 
--- where a type that may have a qualifier is expected, a plain type is chosen, and at a K a const type
+-- a type that may have a qualifier is read as a plain type or, at a K, as a const type
 whole-taken : (kind : Kind) → IsQualifiable kind → (is_left kind Production.PlainType 80 ≡ true) × (is_eaten kind Production.ConstType 75 ≡ true)
 unfolding is_eaten is_left
 whole-taken Kind.Type whole = (refl, refl)
@@ -37,7 +37,7 @@ typed Kind.Item is = tt
 typed Kind.ItemButRef is = tt
 typed _ is = absurd is
 
--- A solid type is expected where a whole one is, function type or not.
+-- A solid type is expected where a whole type is; it may be a function type or not.
 abbrev pub WholeOpens : (s : Symbol) (outer : List Opened) (around : Around) (at : ℕ) (st : State) → Type 0
 WholeOpens s outer around at st = Awaits s Kind.Solid around at st (λ inner.
     (t : Term) (listed : Bool) (end : ℕ) (now : State) → Comes s inner (tree t listed) end now
@@ -171,7 +171,7 @@ const-opens s kind around os at st typed expects stands =
 
 -- ## Names of types
 
--- a name of a type was read, by a production whose last part is its arguments
+-- a name of a type was read, by a production whose last part is the name's arguments
 named-so : (s : Symbol) (around : Around) (os inner : List Opened) (t : Term) (listed : Bool) (at : ℕ) (st : State) (solid : List Opened)
     → TreePasses s solid os around → Expects s Kind.ArgumentsAlone (after t listed around) inner at st
     → ((end : ℕ) (now : State) → Comes s inner nothing_there end now → Comes s solid (tree t listed) end now)
@@ -185,7 +185,7 @@ named-so s around os inner t listed at st solid passes awaits bare argued = reco
   argued = λ a end now comes. passes (instance t a) false end now refl (argued a end now comes);
 }
 
--- the names of types are chosen where one is expected: after an N, an S or a Z, or with their length
+-- a name of a type is chosen where one is expected: after an N, an S or a Z, or with its length
 pub named-taken : (kind : Kind) → IsNamedKind kind → (is_left kind Production.SourceName 48 ≡ true) × (is_eaten kind Production.TypeWithS 83 ≡ true)
     × (is_eaten kind Production.NestedType 78 ≡ true) × (is_eaten kind Production.LocalType 90 ≡ true)
 unfolding is_eaten is_left
@@ -265,67 +265,27 @@ abbreviation-opens s kind around os at st letter is_named is solid stands =
     behind-s-named s kind around os at st (abbreviation letter) (at + 2) is_named
     (λ inner h. filled-at (at + 2) (abbreviation-fills letter is h both.1) (omega arith)) solid both.0
 
--- a type that names no pack in a scope names none where that is the scope
-pub no-pack-named : (scope : Option Term) (t : Term) → ((arguments : Term) → scope ≡ Some arguments → pack_length arguments t ≡ None) → packs_in scope t ≡ None
-unfolding packs_in
-no-pack-named None t none = refl
-no-pack-named (Some arguments) t none = none arguments refl
-
-pub substituted-so : (around : Around) (place : ℕ) (c : Candidate) (st : State) → is_module c.tree ≡ false → is_open c.tree ≡ false
-    → ((scope : Term) → pack_length scope c.tree ≡ None) → substituted around place (Some c) st ≡ Ok (found (tree c.tree true) st)
-unfolding substituted with_packs
-substituted-so around place c st no_module closed none = ap (λ m. whole m (is_open c.tree) (packs_in around.scope c.tree)) no_module
-    ∙ ap (λ o. whole false o (packs_in around.scope c.tree)) closed ∙ ap (whole false false) (no-pack-named around.scope c.tree (λ scope is. none scope))
-  where
-    whole : (module_named names_open : Bool) → Option ℕ → Result (Found Value State) Refusal
-    whole m o packs = elim (m || (o && (around.in_lambda || not (nat_eq c.encoding around.encoding)))) [
-      | true ↦ Err (Refusal.BadReference place)
-      | false ↦ with_packs place around.in_expansion packs st >>= λ s. Ok (found (tree c.tree true) s)
-    ]
-
--- a substitution for a type that names parameters is found, in the encoding that the type was made in
-pub substituted-open : (around : Around) (place : ℕ) (c : Candidate) (st : State) → is_module c.tree ≡ false → c.encoding ≡ around.encoding → around.in_lambda ≡ false
-    → packs_in around.scope c.tree ≡ None → substituted around place (Some c) st ≡ Ok (found (tree c.tree true) st)
-unfolding substituted with_packs
-substituted-open around place c st no_module made plain none =
-    ap (λ m. refused m (is_open c.tree) around.in_lambda (nat_eq c.encoding around.encoding) (packs_in around.scope c.tree)) no_module
-    ∙ ap (λ l. whole (is_open c.tree) l (nat_eq c.encoding around.encoding) (packs_in around.scope c.tree)) plain
-    ∙ ap (λ b. whole (is_open c.tree) false b (packs_in around.scope c.tree)) (ap (λ n. nat_eq n around.encoding) made ∙ eq-eqb around.encoding around.encoding refl)
-    ∙ ap (λ b. gated b (packs_in around.scope c.tree)) (and-false (is_open c.tree)) ∙ ap (gated false) none
-  where
-    gated : Bool → Option ℕ → Result (Found Value State) Refusal
-    gated gate packs = elim gate [
-      | true ↦ Err (Refusal.BadReference place)
-      | false ↦ with_packs place around.in_expansion packs st >>= λ s. Ok (found (tree c.tree true) s)
-    ]
-
-    whole : Bool → Bool → Bool → Option ℕ → Result (Found Value State) Refusal
-    whole o lambda same packs = gated (o && (lambda || not same)) packs
-
-    refused : Bool → Bool → Bool → Bool → Option ℕ → Result (Found Value State) Refusal
-    refused m o lambda same packs = gated (m || (o && (lambda || not same))) packs
-
-substitution-closes : (around : Around) (place : ℕ) (before : State) (digits : List ℕ) (c : Candidate) (st : State)
+substitution-closes : (is_wide : Bool) (around : Around) (place : ℕ) (before : State) (digits : List ℕ) (c : Candidate) (st : State)
     → slice_get st.candidates (counted_value NumberKind.Seq36 digits) ≡ Some c
-    → ((at : ℕ) → substituted around at (Some c) st ≡ Ok (found (tree c.tree true) st))
-    → close Production.Substitution 0 around place before (text digits ∷ []) st ≡ Ok (found (tree c.tree true) st)
+    → ((at : ℕ) → named_by is_wide around at (Some c) st ≡ Ok (found (tree c.tree true) st))
+    → close_by Production.Substitution is_wide 0 around place before (text digits ∷ []) st ≡ Ok (found (tree c.tree true) st)
 unfolding close part text_of
-substitution-closes around place before digits c st at so = ap (λ o. substituted around (place - 1) o st) at ∙ so (place - 1)
+substitution-closes is_wide around place before digits c st at so = ap (λ o. named_by is_wide around (place - 1) o st) at ∙ so (place - 1)
 
 -- the number of a substitution that names a candidate
 pub substitution-fills : {s : Symbol} {around : Around} {os : List Opened} {at : ℕ} {st : State} (digits : List ℕ) (end : ℕ) (c : Candidate)
     → slice_get st.candidates (counted_value NumberKind.Seq36 digits) ≡ Some c
-    → ((place : ℕ) → substituted around place (Some c) st ≡ Ok (found (tree c.tree true) st))
+    → ((place : ℕ) → named_by s.is_wide around place (Some c) st ≡ Ok (found (tree c.tree true) st))
     → Hole s (Sym.Kind (number_of_kind Kind.Abbreviation)) around os at st → IsSeqAt s.bytes at digits end → Filled s os (tree c.tree true) end st
 unfolding is_eaten is_left number_of_kind parts_of between close unfolding_behind meaning part byte_of tree_of text_of piece_of letter_of is_there
 substitution-fills {s = s} {around = around} {at = at} {st = st} digits end c names_it so h is =
     let p = Production.Substitution in
-    closes p (digits-fill digits end (chain-opens (leaves s Kind.Abbreviation p 48 refl) h refl refl) is) (substitution-closes around at st digits c st names_it so)
+    closes p (digits-fill digits end (chain-opens (leaves s Kind.Abbreviation p 48 refl) h refl refl) is) (substitution-closes s.is_wide around at st digits c st names_it so)
 
 -- a substitution
 pub substitution-opens : (s : Symbol) (kind : Kind) (around : Around) (os : List Opened) (at : ℕ) (st : State) (digits : List ℕ) (end : ℕ)
     (c : Candidate) → IsNamedKind kind → slice_get st.candidates (counted_value NumberKind.Seq36 digits) ≡ Some c
-    → ((place : ℕ) → substituted around place (Some c) st ≡ Ok (found (tree c.tree true) st))
+    → ((place : ℕ) → named_by s.is_wide around place (Some c) st ≡ Ok (found (tree c.tree true) st))
     → TreeOpens s kind os around at st → StandsAt s.bytes at (83 ∷ []) → IsSeqAt s.bytes (at + 1) digits end → TypeNamed s os around c.tree true end st
 substitution-opens s kind around os at st digits end c is_named names_it so solid stands is =
     behind-s-named s kind around os at st c.tree end is_named (λ inner h. substitution-fills digits end c names_it so h is) solid stands
@@ -354,7 +314,7 @@ plain-array-opens s kind os around at st digits end whole expects stands is =
     awaited type (λ u here now comes. w.onward (array (values.normal digits) u) false here now
     (closes Production.ArrayType (closes Production.AnyArray (closes p (fill type (tree u true) here now comes) refl) refl) refl).comes)
 
--- likewise where the array is behind a pointer or a reference
+-- likewise for a pointer or a reference to an array
 pub array-opens : (s : Symbol) (access : Access) (kind : Kind) (os : List Opened) (around : Around) (at : ℕ) (st : State) (digits : List ℕ) (end : ℕ)
     → IsQualifiable kind → (access ≡ Access.Lvalue → IsReferable kind) → Expects s kind around os at st → StandsAt s.bytes at (access_letters access)
     → IsSizeAt s.bytes (at + length (access_letters access)) digits end → ArrayOpened s os around access digits end st
@@ -397,7 +357,7 @@ function-opens s kind os around at st whole outside expects stands =
       passes = λ l there then_ last. w.onward (plain_function r l) false there then_ (closes p (fill rest (signature l any_value) there then_ last) refl).comes;
     })
 
--- after PF the return type of the function type pointed to is expected
+-- the return type of a function type that is pointed to is expected after its PF
 pub pointed-function-opens : (s : Symbol) (kind : Kind) (os : List Opened) (around : Around) (at : ℕ) (st : State) → IsQualifiable kind
     → around.prefix ≡ outermost → Expects s kind around os at st → StandsAt s.bytes at (80 ∷ 70 ∷ []) → FunctionOpened s os around true (at + 2) st
 pointed-function-opens s kind os around at st whole outside expects stands =
@@ -417,7 +377,7 @@ pointed-function-opens s kind os around at st whole outside expects stands =
       };
     }
 
--- parameters continue after one of them
+-- parameters continue after one of them is read
 parameters-go-on : {s : Symbol} {outer : List Opened} {made_in : Around} {is_pointer : Bool} {made : Term → Term} {at : ℕ} {st : State} {t : Term}
     (g : SignatureGoesOn s outer made_in is_pointer made at st) {inner : List Opened} {here : ℕ} {now : State}
     → Hole s (Sym.Kind (number_of_kind Kind.FunctionRest)) g.around inner here now
@@ -456,14 +416,14 @@ signature-ends s outer made_in is_pointer made at st g stands =
 
 -- ## References as parameters
 
--- After the letter of a reference expects the referenced type; parameters continue after it.
+-- Expects the referenced type after the letter of a reference; the parameters continue after that type.
 referred : {s : Symbol} {outer : List Opened} {made_in : Around} {is_pointer : Bool} {made : Term → Term} {at : ℕ} {st : State}
     (g : SignatureGoesOn s outer made_in is_pointer made at st) (is_lvalue : Bool) (item : Production) {os : List Opened}
     → Hole s (Sym.Kind (number_of_kind Kind.Type)) g.around
     (opened (standing (rule_of item) [] (at + 1) g.around st) [] (Sym.Kind (number_of_kind Kind.FunctionRest) ∷ []) ∷ os) (at + 1) st
     → ((t : Term) (now : State) → ◌≡◌ {A = Continuation} (between item g.around (at + 1) (tree t true ∷ []) now)
     (Ok (record { values = tree (reference is_lvalue t) true ∷ []; context = g.around; state = with_candidate g.around (reference is_lvalue t) now })))
-    → ((vs : List Value) (inner : State) → close item 0 g.around (at + 1) st vs inner ≡ close Production.RestItem 0 g.around (at + 1) st vs inner)
+    → ((vs : List Value) (inner : State) → close_by item s.is_wide 0 g.around (at + 1) st vs inner ≡ close Production.RestItem 0 g.around (at + 1) st vs inner)
     → ((l : Term) (there : ℕ) (then_ : State) → Filled s os (signature l any_value) there then_ → Filled s g.inner (signature l any_value) there then_)
     → ReferenceOpened s outer made_in is_pointer is_lvalue made at st
 unfolding is_eaten number_of_kind parts_of between close unfolding_behind meaning part byte_of tree_of text_of piece_of letter_of is_there with_item ref_of
@@ -486,7 +446,7 @@ referred {s = s} {at = at} {st = st} g is_lvalue item {os = os} type goes same e
           (λ l there then_ last. ended (list u l) there then_ (closes p last refl));
     }
 
--- expects a parameter that is a reference, after its letter
+-- a parameter that is a reference begins with its letter, and expects the referenced type
 pub reference-opens : (s : Symbol) (outer : List Opened) (made_in : Around) (is_pointer is_lvalue : Bool) (made : Term → Term) (at : ℕ) (st : State)
     → SignatureGoesOn s outer made_in is_pointer made at st → StandsAt s.bytes at (reference_letter is_lvalue ∷ [])
     → ReferenceOpened s outer made_in is_pointer is_lvalue made at st

@@ -1,4 +1,4 @@
--- Bytes that are examined together: none of sixteen is barred, by their mask.
+-- Bytes that are examined together: their mask says that none of sixteen is barred.
 use Rattle.cpp_direct.proofs.Basics.{◌≡◌, ℕ, ◌+◌, ◌-◌, ◌%◌, ◌^◌, ◌<◌, ◌≤◌, Bool, true, false, not, ◌||◌, List, map, length, get_or, Fits, w8, refl, sym, ap, ◌∙◌, subst, arith, nat_lt, agree_below, agree_below_at, not-true, ltb-true, ltb-false, map-map, mask_l-mod, length-chunk, get_or-chunk, leading_from_mask_l, length-map, is_name_byte, ReachesNameBytes, NameClass}
 use Rattle.std.proofs.lemmas.List.Sums.{prefix_len_passes}
 use lib.Lanes.{chunk, mask_l, top}
@@ -29,7 +29,8 @@ module _ (q : ℕ → Bool) (d : List ℕ) (i : ℕ) (z : List ℕ) (f : ℕ →
       (sym (ap (λ b. b || q (get_or d (i + n) 0)) (clear n (omega (arith, low, high))))
       ∙ agree_below_at (λ x. stops x || q x) (λ _. true) 256 (get_or d (i + n) 0) all (fits (i + n)).fits)
 
--- bytes before a place may be in a name, and so may sixteen bytes from a place that isn't after it
+-- if the bytes before a place may be in a name, and so may sixteen bytes that begin at this place or before it, then so
+-- may all bytes up to the end of the sixteen
 pub reached-on : (bytes : List ℕ) (at from : ℕ) → ReachesNameBytes NameClass.Cpp bytes at → from ≤ at
     → ((k : ℕ) → from ≤ k → k < from + 16 → is_name_byte NameClass.Cpp (get_or bytes k 0) ≡ true) → ReachesNameBytes NameClass.Cpp bytes (from + 16)
 reached-on bytes at from before low more k less = go (nat_lt k at) refl

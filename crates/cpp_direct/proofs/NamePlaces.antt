@@ -24,7 +24,7 @@ piece-at s before own behind rest at from to le e from_is to_is =
       to_is = to_is ∙ ap (λ n. n + length own) (sym size);
     })
 
--- a place that was found is that of a token
+-- a place that was found is a token's place
 pub place-found : (Is : Token → Type 0) (s : List ℕ) (at : ℕ) (r : Result TokenPlace ℕ) (o : Option TokenPlace) (place : TokenPlace)
     → FindsToken Is s at r → o ≡ result_ok r → o ≡ Some place → HasToken Is (drop at s) at place
 place-found Is s at (Ok p) o place finds ok some = subst (λ x. HasToken Is (drop at s) at x) (cc (ok, some)) finds
@@ -40,7 +40,7 @@ own-there [] [] is = absurd is
 own-there [] (b ∷ bs) is = λ e. cc e
 own-there (c ∷ cs) own is = absurd is
 
--- a name that was found
+-- a name that was found is a name at the place
 pub name-found : (s : List ℕ) (at : ℕ) (place : TokenPlace) → HasToken (IsName NameClass.Cpp) (drop at s) at place → at ≤ length s
     → (name : List ℕ) × IsNameAt s at name place.end × (name ≢ []) × (take (place.to - place.from) (drop place.from s) ≡ name)
 name-found s at place h le = (
@@ -77,7 +77,7 @@ pub some-by : {T P Q : Type 0} (r : Option T) → OnSome r P → (P → Q) → O
 some-by None h f = tt
 some-by (Some x) h f = f h
 
--- a text was written after the place was changed
+-- if only the place changed before a text was written, the text was read
 pub reads-written : (old middle new : Direct) (bytes text : List ℕ) → Writes middle new bytes → middle.text ≡ old.text → middle.candidates ≡ old.candidates
     → middle.waiting ≡ old.waiting → middle.nest ≡ old.nest → middle.has_scope ≡ old.has_scope → bytes ≡ text → Reads old new text
 reads-written old middle new bytes text w same_text same_candidates same_waiting same_nest same_scope is = record {
@@ -97,7 +97,7 @@ there-at ks slice index counted k same number inside is =
     ap (λ l. slice_get l counted) (sym same) ∙ ap (λ n. slice_get slice n) (sym number)
     ∙ slice_get_read slice (length slice) index k refl (ltb-true index (length slice) (sym inside)) is
 
--- two steps that read something are one step that reads both
+-- two steps that read one text each are one step that reads both texts
 pub reads-then : (a b c : Direct) (x y : List ℕ) → Reads a b x → Reads b c y → Reads a c (x ++ y)
 reads-then a b c x y first second = record {
   text = second.text ∙ ap (λ l. l ++ y) first.text ∙ append_assoc a.text.list.items x y;
@@ -123,7 +123,7 @@ digits-read s old new place is_negative written h le there reads is =
       subst (λ l. Reads old new l) (is ∙ ap (λ d. number_text (signed_digits is_negative d)) n.4) reads,
     )
 
--- nothing was written yet
+-- if only the place changed, bytes without a text were read
 pub reads-begun : (a b : Direct) → b.text ≡ a.text → b.candidates ≡ a.candidates → b.waiting ≡ a.waiting → b.nest ≡ a.nest → b.has_scope ≡ a.has_scope
     → Reads a b []
 reads-begun a b same_text same_candidates same_waiting same_nest same_scope = record {
@@ -137,7 +137,7 @@ reads-begun a b same_text same_candidates same_waiting same_nest same_scope = re
 digit-is : (b : ℕ) → 48 ≤ b → b ≤ 57 → is_decimal_digit b ≡ true
 digit-is b low high = cc (le-leb 48 b low, le-leb b 57 high)
 
--- a digit is no zero byte
+-- a digit isn't the zero byte
 pub digit-byte : (b : ℕ) → is_decimal_digit b ≡ true → b ≢ 0
 digit-byte b digit none = cc (digit, ap (λ n. is_decimal_digit n) none)
 
@@ -250,7 +250,7 @@ own-placed s at from size own r within few own_is bare each = record {
     whole = r.stands.1 ∙ ap (λ l. r.digits ++ l) parts ∙ sym (append_assoc r.digits own (drop size (drop from s)))
         ∙ ap (λ l. l ++ drop size (drop from s)) (sym (append-nil (r.digits ++ own)))
 
--- a name that was found
+-- the place of a name that was found
 pub name-placed : (s : List ℕ) (at : ℕ) (place : TokenPlace) → HasToken (IsName NameClass.Cpp) (drop at s) at place → at ≤ length s
     → IsNamePlace s at (record { from = place.from; to = place.to })
 name-placed s at place h le = record {

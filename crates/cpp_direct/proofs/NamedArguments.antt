@@ -1,5 +1,5 @@
 -- The arguments of the symbol's own name and their texts: types after the name may name them.
-use Rattle.cpp_direct.proofs.AllGround.{arguments_of, Around, Detail, element, found, length_if_pack, State, substituted, Term, tree, types_of, ◌≡◌, ◌≢◌, ℕ, ◌-◌, List, take, drop, reverse, Bool, Ok, true, false, Option, Some, None, is_some, nat_lt, not, ◌&&◌, ◌||◌, ◌<◌, refl, ap, sym, ◌∙◌, subst, false≢true, and_parts, lt-ltb, ltb-true, AreCandidates, AreNamed, AreSingle, Argument, argument_of, Arguments, Candidate, detail_of, Direct, encoding_place, HasArguments, HasSingles, IsCandidate, IsGiven, IsMadeIn, IsNameEnded, IsNameScoped, IsNaming, IsPlaced, IsScoped, IsSingle, Keeps, Kept, Mark, Names, no_scope, Open, place_of, Prints, PrintsAs, PrintsGiven, Scope, Symbol, candidates-as, encoded-here, piece-found, no-pack-named, substituted-open, types-given, no-module, arguments-named}
+use Rattle.cpp_direct.proofs.AllGround.{named_by, arguments_of, Around, Detail, element, found, length_if_pack, State, Term, tree, types_of, ◌≡◌, ◌≢◌, ℕ, ◌-◌, List, take, drop, reverse, Bool, Ok, true, false, Option, Some, None, is_some, nat_lt, not, ◌&&◌, ◌||◌, ◌<◌, refl, ap, sym, ◌∙◌, subst, false≢true, and_parts, lt-ltb, ltb-true, AreCandidates, AreNamed, AreSingle, Argument, argument_of, Arguments, Candidate, detail_of, Direct, encoding_place, HasArguments, HasSingles, IsCandidate, IsGiven, IsMadeIn, IsNameEnded, IsNameScoped, IsNaming, IsPlaced, IsScoped, IsSingle, Keeps, Kept, Mark, Names, no_scope, Open, place_of, Prints, PrintsAs, PrintsGiven, Scope, Symbol, candidates-as, encoded-here, piece-found, no-pack-named, substituted-open, types-given, no-module, arguments-named}
 use Rattle.cpp_direct.specs.AllStates.{Named}
 use Rattle.cpp_grammar.specs.Values as values
 
@@ -9,7 +9,7 @@ abbrev single_text : (is_single : Bool) → Named → Option Named
 single_text true own = Some own
 single_text false own = None
 
--- the argument with this number is known, and no element of the pack
+-- the argument with this number is known, and is no element of the pack
 abbrev is_single : Arguments → (number : ℕ) → Bool
 is_single a number = nat_lt number a.count && (not a.has_pack || nat_lt number a.before)
 
@@ -17,7 +17,7 @@ is_single a number = nat_lt number a.count && (not a.has_pack || nat_lt number a
 abbrev own_at : (text : List ℕ) → Argument → Named
 own_at text p = record { bytes = take (p.to - p.from) (drop p.from text); reference = p.is_reference }
 
--- likewise by number, if the argument is known and no element of the pack
+-- the text at the place of the argument with this number, if the argument is known and is no element of the pack
 abbrev names_at : (text : List ℕ) → Arguments → Names
 names_at text a number = single_text (is_single a number) (own_at text (place_of a number))
 
@@ -34,7 +34,7 @@ by-single k count before has e =
     let h = and_parts (nat_lt k count) (not has || nat_lt k before) e in
     (ltb-true k count h.0, λ is. ltb-true k before (subst (λ b. not b || nat_lt k before ≡ true) is h.1))
 
--- a text that is at its place is found there
+-- an argument's text that is at the argument's place is found by the argument's number
 text-there : (text : List ℕ) (a : Arguments) (number : ℕ) (bytes : List ℕ) → IsSingle a number → IsPlaced text (place_of a number) bytes
     → names_at text a number ≡ Some (record { bytes = bytes; reference = (place_of a number).is_reference })
 text-there text a number bytes single placed =
@@ -43,7 +43,7 @@ text-there text a number bytes single placed =
     let named : List ℕ → Option Named = λ l. Some (record { bytes = l; reference = p.is_reference }) in
     ap (λ b. single_text b (own_at text p)) (single-by number a.count a.before a.has_pack single.0 single.1) ∙ ap named found.2
 
--- an argument that has a text is known, and no element of the pack
+-- an argument that has a text is known, and is no element of the pack
 text-single : (text : List ℕ) (a : Arguments) (number : ℕ) (n : Named) → names_at text a number ≡ Some n
     → IsSingle a number × (own_at text (place_of a number) ≡ n)
 text-single text a number n e =
@@ -72,7 +72,7 @@ arguments-given {detail} text a own has number n is =
 
 -- ## Where they may be named from
 
--- a candidate that was made where no argument may be named names none
+-- a candidate names no argument if it was made where no argument may be named
 candidate-given : (s : Symbol) (scope : Scope) (text : List ℕ) (k : Candidate) (c : values.Candidate) → IsCandidate s no_scope text k c → IsCandidate s scope text k c
 candidate-given s scope text k c p = record {
   bytes = p.bytes;
@@ -162,9 +162,9 @@ named-single s scope around open_ arguments own scoped found is k n e =
 
 -- a candidate that names arguments may be named again among the same types
 pub again-substituted : (s : Symbol) {scope : Scope} (around : Around) (open_ : List Open) (c : values.Candidate) (st : State) (bytes : List ℕ) (r : Bool)
-    → HasSingles scope → IsScoped scope around open_ → IsNaming scope open_ → IsMadeIn scope c.encoding
-    → PrintsGiven (detail_of s) scope.names c.tree bytes r → (place : ℕ) → substituted around place (Some c) st ≡ Ok (found (tree c.tree true) st)
+    → HasSingles scope → IsScoped scope around open_ → IsNaming scope open_ → IsMadeIn scope c.encoding c.in_lambda
+    → PrintsGiven (detail_of s) scope.names c.tree bytes r → (place : ℕ) → named_by s.is_wide around place (Some c) st ≡ Ok (found (tree c.tree true) st)
 again-substituted s {scope = scope} around open_ c st bytes r own scoped naming made prints place =
     let here = encoded-here scope around open_ scoped naming in
-    substituted-open around place c st (no-module c.tree prints.as_prefix) (made.0 ∙ sym here.0) here.1 (no-pack-named around.scope c.tree
+    substituted-open s.is_wide around place c st (no-module c.tree prints.as_prefix) (made.0 ∙ sym here.0) made.2 here.1 (no-pack-named around.scope c.tree
     (λ arguments is. prints.packless arguments (named-single s scope around open_ arguments own scoped naming.0 is)))

@@ -4,7 +4,8 @@ use Rattle.cpp_direct.proofs.AllRead.{closed-prints, nest-scoped, nest-further, 
 
 -- ## A text is written
 
--- These bytes were written at the end of the text, and the nested name begins and serves as before.
+-- These bytes were written at the end of the text. The nested name begins at the same place as before, and serves the
+-- same purpose.
 pub record Goes (old new : Direct) (bytes : List ℕ) : Type 0 where
   pub text : new.text.list.items ≡ old.text.list.items ++ bytes
   pub candidates : new.candidates ≡ old.candidates
@@ -83,7 +84,7 @@ component-named s outer around t u at st a to end same n = subst (λ k. NestName
   renamed = λ v k later comes. a.onward v k later (n.renamed v k later comes);
 })
 
--- the digit of a constructor or of a destructor isn't 0
+-- the byte of a constructor's or a destructor's digit isn't zero
 pub structor-digit-some : {is_wide : Bool} {digit most : ℕ} (least : ℕ) → 1 ≤ least → ((least ≤ digit) × (digit ≤ most)) ⊎ ((is_wide ≡ true) × ((digit ≡ 52) ⊎ (digit ≡ 53)))
     → digit ≢ 0
 structor-digit-some least some (inl (low, high)) e = omega (arith, some, low, e)
@@ -179,7 +180,7 @@ class-named s old between p w =
 
 -- ## A piece of a name
 
--- a writer whose nested name ends in a piece that is a class, between two places
+-- a writer whose nested name ends in a class, which is written between two places
 abbrev pub renamed : Direct → (from to : ℕ) → Direct
 renamed w from to = record w { nest = record w.nest { class_from = from; class_to = to; is_listed = false; has_class = true; is_instance = false } }
 
@@ -234,7 +235,7 @@ pub moves-to : (old new : Direct) (at by : ℕ) → new ≡ record old { at = at
 moves-to old new at by same e =
     subst (λ (d : Direct). Moves old d by) (sym same) (record { text = refl; candidates = refl; waiting = refl; scope = refl; nest = refl; at = e })
 
--- Likewise for a writer that first moves, and writes the colons before the piece.
+-- A piece is also written after the name so far by a writer that moves, writes the colons, and then reads the piece.
 piece-follows : (s : Symbol) (old start marked read : Direct) (by from to : ℕ) (piece : Term) (x : List ℕ) (p : IsWriting s old Step.Component)
     → IsPiece (detail_of s) piece x → opening_text piece ≡ codes "<" → Moves old start by → Writes start marked (codes "::") → Reads marked read x
     → NestNamed s p.is_before.1.outer p.is_before.1.around (within p.is_before.0 piece) read.at p.state

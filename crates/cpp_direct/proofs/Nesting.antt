@@ -1,5 +1,5 @@
 -- Nested names are read and written from left to right.
-use Rattle.cpp_direct.proofs.AllGround.{abbreviation, abbreviation_texts, after, alone, arguments_of, Around, counted_value, Detail, found, has_return_type, in_std, inside, instance, is_function_type, is_structor, Kind, look_up, may_be_empty, no_items, same_bytes, source, source_text, State, substituted, Term, tree, with_tag, ◌≡◌, ◌≢◌, ℕ, ◌+◌, ◌-◌, ◌≤◌, List, [], ◌∷◌, ◌++◌, length, take, drop, reverse, slice_get, Bool, true, false, Some, refl, ap, sym, ◌∙◌, subst, arith, codes, append-nil, append_assoc, length-append, nat_eq, ◌&&◌, Ok, false≢true, eqb-true, take-append-drop, abbreviation_letters, added, added_unless, argument_of, Arguments, AwaitsNest, below, Candidate, detail_of, Direct, HasArguments, HasSingles, is_abbreviated, is_type, is_unmarked, IsMadeIn, IsNameEnded, IsNaming, IsNest, IsNesting, IsNestKnown, IsNestNamed, IsNestScoped, IsNestSoFar, IsOperatorRead, IsOwn, IsScoped, IsUnmarked, IsWriting, Kept, Lists, Mark, Names, NamesClass, Nest, nowhere, Open, opening_bracket, OpensArguments, Prints, PrintsAs, Purpose, Reads, Scope, Serves, Symbol, tag_text, AwaitsComponent, Comes, IsFirstRest, IsNameAt, IsRest, IsSeqAt, IsTagAt, NestGoesOn, Opened, SamePasses, StandsAt, unless_listed, with_candidate, NumberKind, Step, name-unmarked, no-arguments, scoped-inside, has-member, alone-arguments, any-tail, expects-empty, stands-join, comes-moved, kept-grown, kept-read, kept-same, made-here, candidate-found, piece-found, nest-stays, value-comes, list-begins, type-named, kept-unless, kept-with, placed-last, placed-moved, arguments-open, substituted-so, nest-source, nest-abbreviation, nest-substitution, nest-std, component-awaits, component-outside, any-arguments, instance-arguments, nest-end, tag-follows, as-name, source-prints, source-class, std-prints, std-class, abbreviation-prints, abbreviation-class, prints-as, no-module}
+use Rattle.cpp_direct.proofs.AllGround.{named_by, abbreviation, abbreviation_texts, after, alone, arguments_of, Around, counted_value, Detail, found, has_return_type, in_std, inside, instance, is_function_type, is_structor, Kind, look_up, may_be_empty, no_items, same_bytes, source, source_text, State, Term, tree, with_tag, ◌≡◌, ◌≢◌, ℕ, ◌+◌, ◌-◌, ◌≤◌, List, [], ◌∷◌, ◌++◌, length, take, drop, reverse, slice_get, Bool, true, false, Some, refl, ap, sym, ◌∙◌, subst, arith, codes, append-nil, append_assoc, length-append, nat_eq, ◌&&◌, Ok, false≢true, eqb-true, take-append-drop, abbreviation_letters, added, added_unless, argument_of, Arguments, AwaitsNest, below, Candidate, detail_of, Direct, HasArguments, HasSingles, is_abbreviated, is_type, is_unmarked, IsMadeIn, IsNameEnded, IsNaming, IsNest, IsNesting, IsNestKnown, IsNestNamed, IsNestScoped, IsNestSoFar, IsOperatorRead, IsOwn, IsScoped, IsUnmarked, IsWriting, Kept, Lists, Mark, Names, NamesClass, Nest, nowhere, Open, opening_bracket, OpensArguments, Prints, PrintsAs, Purpose, Reads, Scope, Serves, Symbol, tag_text, AwaitsComponent, Comes, IsFirstRest, IsNameAt, IsRest, IsSeqAt, IsTagAt, NestGoesOn, Opened, SamePasses, StandsAt, unless_listed, with_candidate, NumberKind, Step, name-unmarked, no-arguments, scoped-inside, has-member, alone-arguments, any-tail, expects-empty, stands-join, comes-moved, kept-grown, kept-read, kept-same, made-here, candidate-found, piece-found, nest-stays, value-comes, list-begins, type-named, kept-unless, kept-with, placed-last, placed-moved, arguments-open, substituted-so, nest-source, nest-abbreviation, nest-substitution, nest-std, component-awaits, component-outside, any-arguments, instance-arguments, nest-end, tag-follows, as-name, source-prints, source-class, std-prints, std-class, abbreviation-prints, abbreviation-class, prints-as, no-module}
 use Rattle.cpp_direct.proofs.LettersTested.{each_passes, tested}
 use Rattle.cpp_direct.proofs.NamedArguments.{again-substituted, named-here}
 use Rattle.cpp_direct.proofs.PrintedNests.{tagged-as, std-tagged, again-tagged}
@@ -8,7 +8,7 @@ use Rattle.cpp_grammar.specs.Values as values
 
 -- ## What types may name
 
--- types in a nested name that continues may name the same as before
+-- types in a nested name that continues may name the same arguments as before
 pub nest-scoped : (s : Symbol) {scope : Scope} (old new : Direct) (around : Around) → new.waiting.list.items ≡ old.waiting.list.items
     → new.nest.purpose ≡ old.nest.purpose → new.nest.is_dependent ≡ old.nest.is_dependent → IsNestScoped s scope old around → IsNestScoped s scope new around
 nest-scoped s {scope} old new around waiting_is purpose_same dependent_same n = record {
@@ -16,7 +16,7 @@ nest-scoped s {scope} old new around waiting_is purpose_same dependent_same n = 
   naming = λ e. subst (λ (o : List Open). IsNaming scope (reverse o)) (sym waiting_is) (n.naming (sym dependent_same ∙ e));
 }
 
--- types in a nested name that begins may name what types may name at its beginning
+-- types in a nested name may name what types may name where the nested name begins
 nest-placed : (s : Symbol) {scope : Scope} (old new : Direct) (around : Around) (purpose : Purpose)
     → (is_type purpose ≡ true → IsScoped scope around (reverse old.waiting.list.items)) → new.waiting ≡ old.waiting → new.nest.purpose ≡ purpose
     → (new.nest.is_dependent ≡ true → IsNaming scope (reverse old.waiting.list.items)) → IsNestScoped s scope new around
@@ -43,7 +43,7 @@ nest-further s {scope} old new n u bytes written waiting_is purpose_same depende
 
 -- if a nested name names arguments, it is in the encoding that has them
 nest-here : (s : Symbol) {scope : Scope} (w : Direct) (around : Around) → IsNestScoped s scope w around → (IsOwn w.nest.purpose → w.nest.is_dependent ≡ false)
-    → w.nest.is_dependent ≡ true → IsMadeIn scope around.encoding
+    → w.nest.is_dependent ≡ true → IsMadeIn scope around.encoding around.in_lambda
 nest-here s {scope} w around n closed e =
     made-here scope around (reverse w.waiting.list.items) (n.scoped (type-named w.nest.purpose w.nest.is_dependent closed e)) (n.naming e)
 
@@ -496,9 +496,9 @@ own-closed (Purpose.Address mark) true typed own = absurd (false≢true (typed r
 -- what a reference denotes may be named here
 named-again : (s : Symbol) {scope : Scope} (around : Around) (open_ : List Open) (c : values.Candidate) (st : State) (bytes : List ℕ) (d : Bool)
     → PrintsAs (detail_of s) scope.names d c.tree bytes false → HasSingles scope → (d ≡ true → IsScoped scope around open_)
-    → (d ≡ true → IsNaming scope open_) → (d ≡ true → IsMadeIn scope c.encoding) → (place : ℕ)
-    → substituted around place (Some c) st ≡ Ok (found (tree c.tree true) st)
-named-again s around open_ c st bytes false prints own scoped naming made place = substituted-so around place c st (no-module c.tree prints.as_prefix) prints.is_closed prints.packless
+    → (d ≡ true → IsNaming scope open_) → (d ≡ true → IsMadeIn scope c.encoding c.in_lambda) → (place : ℕ)
+    → named_by s.is_wide around place (Some c) st ≡ Ok (found (tree c.tree true) st)
+named-again s around open_ c st bytes false prints own scoped naming made place = substituted-so s.is_wide around place c st (no-module c.tree prints.as_prefix) prints.is_closed prints.packless
 named-again s around open_ c st bytes true prints own scoped naming made place =
     again-substituted s around open_ c st bytes false own (scoped refl) (naming refl) (made refl) prints place
 

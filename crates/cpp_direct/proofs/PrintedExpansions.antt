@@ -174,8 +174,8 @@ expanded {detail} c k pattern t rest b texts packed one others =
       void = λ h. cc h;
     }
 
--- Among the types of a name whose arguments include a pack of these elements, an expansion of the pack prints what its pattern
--- makes of each element.
+-- An expansion prints what its pattern makes of each element of a pack, among the types of a name whose arguments include that
+-- pack.
 pub expansion-element : {detail : Detail} (name all : Term) (k : ℕ) (ts : List Term) (pattern : Pattern) (bytes : List ℕ) → ts ≢ []
     → arguments_of name ≡ Some all → element all k ≡ pack (list_of ts)
     → PrintAllBy (PrintsMade detail pattern) ts bytes → IsElementIn detail (types_of name) 6 (expansion (made_by pattern (parameter k))) bytes

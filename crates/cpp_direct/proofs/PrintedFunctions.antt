@@ -107,7 +107,8 @@ plain-element {detail} extra true r b is_reference ts l p all = let f = plain r 
   void = λ e. cc e;
 }
 
--- A function type, or a pointer to it, prints its return type and its parameters, unless these are a lone void.
+-- A function type, or a pointer to it, prints its return type and its parameters, unless the parameters are a lone
+-- void.
 pub function-element : {detail : Detail} (extra : ℕ) (is_pointer : Bool) (r : Term) (b : List ℕ) (is_reference : Bool) (ts : List Term) (l : List ℕ)
     → Prints detail r b is_reference → PrintAll detail 0 ts l → l ≢ codes "void"
     → IsElement detail extra (pointed is_pointer (plain_function r (list_with ts nil))) (b ++ opening_text is_pointer ++ l ++ codes ")")
@@ -163,7 +164,7 @@ array-right-cost detail c digits t =
 
 -- ## An array as an element
 
--- A reference to an array prints its elements' type and its size, and a mark between them.
+-- A reference to an array prints the type of the array's elements and the array's size, with a mark between them.
 pub array-around : {detail : Detail} (digits : List ℕ) → IsUnmarked digits → (t : Term) (b : List ℕ) (r : Bool) → Prints detail t b r
     → PrintsAround detail (lvalue (array digits t)) (b ++ array_opening Access.Lvalue ++ digits ++ codes "]")
 unfolding parts_in left_parts right_parts marked_parts reference_parts closing_right head head_with is_reference is_funarr not_empty is_empty is_open pack_length is_void
@@ -189,7 +190,8 @@ array-around {detail} digits plain t b r p = let a = array digits t in record {
   no_void = refl;
 }
 
--- An array prints its elements' type and its size, and a mark between them if it is behind a pointer or a reference.
+-- An array prints its elements' type and its size, and a mark between them if the array is behind a pointer or a
+-- reference.
 pub array-element : {detail : Detail} (extra : ℕ) (access : Access) (digits : List ℕ) → IsUnmarked digits → (t : Term) (b : List ℕ) (r : Bool) → Prints detail t b r
     → IsElement detail extra (accessed access (array digits t)) (b ++ array_opening access ++ digits ++ codes "]")
 unfolding parts_in left_parts right_parts marked_parts reference_parts closing_right head head_with is_reference is_funarr not_empty is_empty is_open pack_length is_void

@@ -26,7 +26,7 @@ first-is c e rest filled = rw (filled, first_parts) refl
 element-text : (l r x b y : List ℕ) → l ++ r ≡ b → x ≡ y → l ++ (r ++ x) ≡ b ++ y
 element-text l r x b y e f = sym (append_assoc l r x) ∙ ap (λ k. k ++ x) e ∙ ap (λ k. b ++ k) f
 
--- A tree ends a list after the list's elements, and prints nothing there. It costs at most `most`.
+-- A tree ends a list after the list's elements, and prints nothing itself. It costs at most `most`.
 record EndsList (detail : Detail) (c : Context) (most : ℕ) (tail : Term) : Type 0 where
   first_text : text_of (shown_by detail (list_part first c tail)) ≡ []
   first_cost : cost_of (shown_by detail (list_part first c tail)) ≤ 1 + most
@@ -56,7 +56,7 @@ unfolding is_empty
 ends-list {detail} c tail (inl is) = subst (EndsList detail c 1) (sym is) (ends-bare c 1)
 ends-list {detail} c tail (inr is) = subst (EndsList detail c 1) (sym is) (ends-nothing c (pack nil) refl)
 
--- no parameter is free in the end of a list, and it names no packs
+-- the end of a list has no free parameter, and names no packs
 tail-closed : (tail : Term) → IsTail tail → (is_open tail ≡ false) × ((scope : Term) → pack_length scope tail ≡ None)
 unfolding is_open pack_length first_of
 tail-closed tail (inl is) = rw is (refl, λ scope. refl)
@@ -118,7 +118,7 @@ pub list-more : (ts : List Term) (t r : Term) → list_with (ts ++ t ∷ []) r �
 list-more [] t r = refl
 list-more (u ∷ ts) t r = ap (λ l. list u l) (list-more ts t r)
 
--- Elements that print in one sense do so in another that the first implies.
+-- Elements that print in one sense also print in each sense that the first one implies.
 each-by : (by so : Term → List ℕ → Type 0) → ((t : Term) (b : List ℕ) → by t b → so t b) → (ts : List Term) (texts : List (List ℕ)) → PrintEachBy by ts texts
     → PrintEachBy so ts texts
 each-by by so follows [] [] each = tt
@@ -161,7 +161,7 @@ list-cost-in detail c extra ts l few all =
     subst (λ k. cost_of (shown_by detail (list_part first c k)) ≤ 1 + extra + 4 * length l) (list-with-none ts)
     (omega (arith, (first-shown c extra ts nil all.0 0 (ends-bare c 0) all.1).1 few, ap length all.2))
 
--- What the items of a function print in a context, at a cost that leaves room for the rest of it.
+-- What the items of a function print in a context, at a cost that leaves room for the rest of the function.
 abbrev pub PrintsItems : (detail : Detail) → Context → (items : Term) → (l : List ℕ) → Type 0
 PrintsItems detail c items l = (text_of (shown_by detail (list_part first c items)) ≡ l) × (cost_of (shown_by detail (list_part first c items)) ≤ 7 + 4 * length l)
 
@@ -248,7 +248,7 @@ listed-element false extra t b r p = type-element extra t b r p
 listed-element true extra t b r (inl p) = type-element extra t b r p
 listed-element true extra t b r (inr p) = around-element extra t b p.1
 
--- What prints in a context prints as an element there.
+-- What prints in a context also prints as an element in that context.
 pub type-in : {detail : Detail} (c : Context) (extra : ℕ) (t : Term) (b : List ℕ) (r : Bool) → 3 ≤ extra → PrintsIn detail c 3 t b r
     → IsElementIn detail c extra t b
 type-in c extra t b r most p = record {
@@ -282,14 +282,14 @@ pack-element {detail} (t ∷ ts) l some all = let p = pack (list_of (t ∷ ts)) 
     first-filled c [] each = elim each [ ]
     first-filled c (b ∷ bs) each = rw (each.0.filled c) refl
 
--- No elements print nothing.
+-- A list without elements prints nothing.
 pub none-print : (detail : Detail) (extra : ℕ) → PrintAll detail extra [] []
 none-print detail extra = ([], tt, refl)
 
 pub none-print-in : (detail : Detail) (c : Context) (extra : ℕ) → PrintAllIn detail c extra [] []
 none-print-in detail c extra = ([], tt, refl)
 
--- no elements have no text
+-- a list without elements has no text
 pub none-text : (by : Term → List ℕ → Type 0) (l : List ℕ) → PrintAllBy by [] l → l ≡ []
 none-text by l all = go all.0 all.1 all.2
   where

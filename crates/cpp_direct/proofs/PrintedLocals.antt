@@ -56,7 +56,7 @@ lambda-list-prints {detail} ts l all number digits is plain =
       opening = refl;
     }
 
--- A component of a name prints the name so far and its own.
+-- A component of a name prints the name so far and then its own name.
 pub component-prints : {detail : Detail} (t : Term) (b : List ℕ) → Prints detail t b false → (p : Term) (n : List ℕ) → PrintsPiece detail p n
     → Prints detail (within t p) (b ++ codes "::" ++ n) false
 unfolding parts_in right_parts not_empty is_open pack_length last_piece besides first_of

@@ -99,7 +99,7 @@ source-filled name filled = go _
 pub as-name : {detail : Detail} (t : Term) (b : List ℕ) (reference : Bool) → Prints detail t b reference → PrintsName detail t b
 as-name t b reference p = record { left_text = p.left_text; cost = p.cost }
 
--- What names something, and has one text at the base, names its class by that text.
+-- A tree that names something, and has one text at the base, names its class by that text.
 pub base-names : {detail : Detail} (t : Term) (b class : List ℕ) → PrintsName detail t b → ((c : Context) → parts_in detail c base t ≡ text class ∷ [])
     → ((c : Context) → written_in detail c base t ≡ unmarked_parts (has_arguments detail) (parts_in detail c base t)) → IsUnmarked class
     → NamesClass detail t class
@@ -115,7 +115,7 @@ base-names {detail} t b class n base_is written plain = record {
   );
 }
 
--- what holds for some letters and for one more holds for each of them
+-- a property that holds for some letters and for one more holds for each of them
 at-letter : (P : ℕ → Type 0) (letter c : ℕ) (before : Bool) → (before ≡ true → P letter) → P c → (before || nat_eq letter c) ≡ true → P letter
 at-letter P letter c before others there e = go before refl e
   where
@@ -216,7 +216,7 @@ operator-names {detail} a b =
     let filled : 1 ≤ length (operator_text a b) = omega (arith, length-append (codes "operator") (look_up (a ∷ b ∷ []) operator_texts)) in
     one-text-names (alone (operator a b)) (operator_text a b) (λ c. refl) (λ c. refl) (λ c. refl) (operator-unmarked a b) filled
 
--- An operator prints its text, unless a blank is between it and its arguments.
+-- An operator prints its text, unless a blank separates the operator from its arguments.
 pub operator-prints : {detail : Detail} (a b : ℕ) → is_angle a b ≡ false → Prints detail (alone (operator a b)) (operator_text a b) false
 unfolding parts_in left_parts right_parts piece_parts not_empty is_open pack_length last_piece opening_text besides
 operator-prints {detail} a b plain = own-prints (alone (operator a b)) (operator_text a b) (operator-names a b) refl (λ scope. refl) (rw plain refl) (λ c. refl)

@@ -9,7 +9,7 @@ joins x m y b n e f = rw (e, f, append-nil n) (sym (append_assoc b m n))
 
 -- ## A piece in a name
 
--- a piece of a name, with its text, that is printed after colons
+-- a piece of a name that is printed after colons, with its text
 pub record IsPiece (detail : Detail) (p : Term) (x : List ℕ) : Type 0 where
   pub piece_text : (context : Context) → text_of (written_of detail piece context p) ≡ x
   pub piece_cost : (context : Context) → cost_of (written_of detail piece context p) ≡ 1 + length x
@@ -59,7 +59,7 @@ operator-piece {detail} a b = record {
   no_structor = λ t. refl;
 }
 
--- arguments after an operator other than << and < are in brackets, with no blank before these
+-- arguments after an operator other than << and < are in brackets, with no blank before the brackets
 pub operator-opening : (a b : ℕ) → is_angle a b ≡ false → opening_text (operator a b) ≡ codes "<"
 unfolding opening_text
 operator-opening a b plain = rw plain refl
@@ -356,7 +356,8 @@ std-tagged internal name filled plain tag tag_plain =
     base-names (with_tag own tag) (b ++ tag_text tag) (source_text name)
     (tagged-names (is_structor own) own b (as-name own b false (std-prints internal name filled plain)) tag tag_plain) (λ c. refl) (λ c. refl) (source-unmarked name plain)
 
--- a name with one more tag names its class as before, if at the base it has the same text and costs at most one more
+-- a name with one more tag names its class as before, if the name has the same text at the base and costs at most one
+-- more
 again-by : {detail : Detail} (of_structor : Bool) (t : Term) (b : List ℕ) → Prints detail t b false → (before tag class : List ℕ) → IsUnmarked before → IsUnmarked tag
     → NamesClass detail (tagged of_structor t before) class
     → ((c : Context) → text_of (written_of detail base c (tagged of_structor (tagged of_structor t before) tag)) ≡ text_of (written_of detail base c (tagged of_structor t before)))

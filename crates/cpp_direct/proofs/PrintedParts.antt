@@ -21,7 +21,7 @@ has-none s bare = ap (λ b. has_parameters (detail_by b s.is_brief)) bare ∙ ba
 
 -- ## What parts print
 
--- what parts print in a detail, as they are
+-- what parts print in a detail, with all marks in their texts
 abbrev pub printed_by : Detail → List (PartOf Item) → Unshared
 printed_by d ps = printed_parts (written d) (not_empty ps)
 
@@ -42,7 +42,7 @@ unmarked-falls shown n (text [] ∷ ps) below = unmarked-falls shown n ps below
 unmarked-falls shown n (text (b ∷ bs) ∷ ps) below = unmarked-falls shown n ps below
 unmarked-falls shown n (sub i ∷ ps) below = (below.0, unmarked-falls shown n ps below.1)
 
--- the ranks of parts stay below a bound if the last text is another one
+-- the ranks of parts stay below a bound if the last text is replaced by another one
 last-falls : (n x y : ℕ) (ps : List (PartOf Item)) → RanksBelow rank n (not_empty (ps ++ text (x ∷ []) ∷ []))
     → RanksBelow rank n (not_empty (ps ++ text (y ∷ []) ∷ []))
 unfolding not_empty
@@ -105,7 +105,7 @@ pub cost_shown : (d : Detail) (form : Form) (context : Context) (t : Term) (ps :
     → cost_of (written_of d form context t) ≡ cost_of (shown_by d ps)
 cost_shown d form context t ps e same = ap cost_of (writes_parts d form context t) ∙ ap (λ xs. cost_of (printed_by d xs)) same ∙ ap (λ xs. cost_of (shown_by d xs)) e
 
--- a first text precedes what the other parts print, whether it is empty or not
+-- a first text precedes what the other parts print, whether the first text is empty or not
 first-printed : (d : Detail) (b : List ℕ) (ps : List (PartOf Item)) → text_of (printed_by d (text b ∷ ps)) ≡ b ++ text_of (printed_by d ps)
 unfolding not_empty
 first-printed d [] ps = refl

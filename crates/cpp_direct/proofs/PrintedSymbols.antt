@@ -1,4 +1,4 @@
--- Encodings with a known text, and the symbols that they are.
+-- Encodings with a known text, and the symbols made of them.
 use Rattle.cpp_direct.proofs.Basics.{◌≡◌, ◌≢◌, refl, ap, sym, ◌∙◌, ℕ, ◌*◌, ◌≤◌, List, [], ◌∷◌, ◌++◌, length, Bool, true, false, ◌&&◌, arith, codes, nat_eq, length-append, append-nil, append_assoc, subst, absent, adjusting, any_value, as_item, begins_parameters, builtin, by_table, clone, clone_text, closed, construction, Context, covariant, Detail, encoding_of, encoding_text, explicit_object, first, full, full_parts, function, function_bare, function_full, has_arguments, has_parameters, has_return_type, is_nil, is_void, left, left_parts, list, list_part, look_up, lvalue_only, named_special_texts, nil, non_virtual, not_empty, object, of_name, parameters, parts_in, Qualifiers, qualifiers_of, ref_of, RefQualifier, right, root, root_item, root_parts, rvalue_only, same_bytes, says, shown, special, special_texts, symbol, Term, text_part, Thunk, thunk, thunk_text, tree_of, types_of, Value, text, text_of, cost_of, Mark, called_on, has_const, IsElement, IsNamedSo, IsUnmarked, joined, list_of, list_with, plain_encoding, PrintAllIn, PrintEachIn, PrintsIn, PrintsName, qualifiers, Shows, unmarked_parts, written, written_in, written_of, false≢true}
 use Rattle.cpp_direct.proofs.Unmarked.{length-unmarked, qualifiers-unmarked, special-unmarked, thunk-unmarked, unmarked-same}
 use Rattle.cpp_direct.proofs.PrintedParts.{shown_by, text_shown, cost_shown, first_shown, first_cost_shown, text_append, cost_append, part-text, part-cost, length-filled}
@@ -144,7 +144,7 @@ object-shows {detail} name b p q ref =
 element_text : (x r k b : List ℕ) → x ++ r ≡ b → k ++ (x ++ (r ++ [])) ≡ k ++ b
 element_text x r k b e = ap (λ l. k ++ (x ++ l)) (append-nil r) ∙ ap (λ l. k ++ l) e
 
--- What the compiler makes for a type prints what it is, and the type.
+-- A special object prints the text for its kind, and the type that it belongs to.
 pub special-shows : {detail : Detail} (letter : ℕ) → look_up (letter ∷ []) special_texts ≢ [] → (t : Term) (b : List ℕ) → IsElement detail 0 t b
     → Shows detail (special letter t) (look_up (letter ∷ []) special_texts ++ b)
 unfolding parts_in full_parts not_empty
@@ -169,7 +169,7 @@ table_text k x r m y z b c e f =
     ap (λ l. k ++ ((x ++ l) ++ (m ++ (y ++ (z ++ []))))) (append-nil r) ∙ ap (λ l. k ++ (l ++ (m ++ (y ++ (z ++ []))))) e
     ∙ ap (λ l. k ++ (b ++ (m ++ (y ++ l)))) (append-nil z) ∙ ap (λ l. k ++ (b ++ (m ++ l))) f ∙ simp append_assoc
 
--- A construction table prints what it is, its base class, and its derived class.
+-- A construction table prints the text for its kind, its base class, and its derived class.
 pub table-shows : {detail : Detail} (derived parent : Term) (digits b c : List ℕ) → IsElement detail 0 parent b → IsElement detail 0 derived c
     → Shows detail (construction derived digits parent) (codes "construction vtable for " ++ b ++ codes "-in-" ++ c)
 unfolding parts_in full_parts not_empty
@@ -217,7 +217,7 @@ led-shows d made k e b is same plain filled p =
       shown_cost = omega (arith, p.shown_cost, cost_shown d full closed made (text k ∷ behind) is same, first_cost_shown d k behind, filled, length-append k b);
     }
 
--- A thunk prints what it is, and the encoding that it calls.
+-- A thunk prints the text for its kind, and the encoding that it calls.
 pub thunk-shows : (d : Detail) (kind : Thunk) (e : Term) (b : List ℕ) → Shows d e b → Shows d (thunk kind e) (thunk_text kind ++ b)
 unfolding parts_in full_parts not_empty
 thunk-shows d kind e b p = led-shows d (thunk kind e) (thunk_text kind) e b refl refl (thunk-unmarked kind) (thunk-filled kind) p
@@ -230,12 +230,12 @@ pub clone-filled : (b : Bool) → 1 ≤ length {A = ℕ} (elim b [ true ↦ code
 clone-filled true = omega arith
 clone-filled false = omega arith
 
--- A clone prints what it is, and the encoding that it is a clone of.
+-- A clone prints the text for its kind, and the encoding that was cloned.
 pub clone-shows : (d : Detail) (letter : ℕ) (e : Term) (b : List ℕ) → Shows d e b → Shows d (clone letter e) (clone_text letter ++ b)
 unfolding parts_in full_parts not_empty clone_text
 clone-shows d letter e b p = led-shows d (clone letter e) (clone_text letter) e b refl refl (clone-plain (nat_eq letter 116)) (clone-filled (nat_eq letter 116)) p
 
--- A guard variable prints what it is, and the object that it guards.
+-- A guard variable prints the text for its kind, and the object that it guards.
 pub guarded-shows : (d : Detail) (name : Term) (q : Qualifiers) (ref : RefQualifier) (b : List ℕ) → Shows d (object name q ref) b
     → Shows d (of_name 86 name q ref) (codes "guard variable for " ++ b)
 unfolding look_up same_bytes named_special_texts parts_in full_parts not_empty
@@ -297,7 +297,7 @@ pub encoding-returned : (v : Value) (mark : Mark) (own : Term) → IsNamedSo v o
 unfolding encoding_of
 encoding-returned v mark own is returns r items = rw (ap has_return_type is.tree_is ∙ returns, encoding_of) (rw (is.tree_is, is.qualifiers_are, is.mark_is) refl)
 
--- Parameters that aren't a lone void are those of the function that they make, with some return type or none.
+-- Parameters that aren't a lone void are the parameters of the function that they make, with some return type or none.
 pub made-with : (own returned : Term) (mark : Mark) (make : Term → Term)
     → ((t rest : Term) → make (list t rest) ≡ function own (qualifiers (has_const mark)) (called_on mark) returned (parameters (list t rest)))
     → (ts : List Term) → ts ≢ [] → parameters (list_of ts) ≡ list_of ts

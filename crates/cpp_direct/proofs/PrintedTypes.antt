@@ -1,4 +1,4 @@
--- Types that are made of another type: pointers, references and constant types, and parameters that name one.
+-- Types that are made of another type (pointers, references and constant types), and parameters that name such a type.
 use Rattle.cpp_direct.proofs.Basics.{absent, arguments_of, as_item, attached_parts, before_piece, closing_right, component_parts, declaring, Detail, element, function_type, has_arguments, is_function_type, is_module, is_open, is_plain_integer, is_void, last_piece, left_parts, length_if_pack, lvalue, marked_parts, nil, not_empty, opening_text, operation, pack_length, parameter, parameter_parts, parts_in, piece_parts, pointer, prefix_item, qualified, qualified_left, qualified_right, qualifier_text, Qualifiers, reference_parts, right_parts, rvalue, says, Term, text_part, types_of, text, IsElementIn, Prints, PrintsAround, PrintsIn, PrintsGiven, PrintsAs, Names, IsGiven, AreSingle, EndsAsInteger, joined_to, written_of, IsUnmarked, unmarked_parts, written_in, closed, Form, left, right, low, Context, Head, lref, collapsed, head_with, head, is_reference, is_funarr, is_empty, argument, head_closed, indexed, own_argument, ◌≡◌, refl, ap, ◌∙◌, ℕ, ◌+◌, ◌*◌, ◌≤◌, List, [], ◌∷◌, ◌++◌, length, Bool, true, false, nat_eq, None, arith, codes, length-append, sym, subst, append-nil, Some, text_of, cost_of}
 use Rattle.cpp_direct.proofs.PrintedParts.{text_shown, cost_shown, alone_shown, first_cost_shown}
 use Rattle.cpp_direct.specs.Prints.{Named}
@@ -47,7 +47,7 @@ prints-in c extra t b r p = record {
   some = omega (arith, p.cost c);
 }
 
--- What prints in each context prints anywhere, if it is closed and names no packs.
+-- A tree that prints in each context prints anywhere, if it is closed and names no packs.
 pub made-prints : {detail : Detail} (t : Term) (b : List ℕ) (r : Bool) → ((c : Context) → PrintsIn detail c 0 t b r) → is_open t ≡ false
     → ((scope : Term) → pack_length scope t ≡ None)
     → length_if_pack t ≡ None → ((c : Context) (p : Term) → component_parts c t p ≡ joined_to left c c t p) → opening_text (last_piece t) ≡ codes "<"
@@ -71,7 +71,7 @@ made-prints t b r h is_closed packless no_pack as_prefix opening integer referen
   integer = integer;
 }
 
--- What prints in each context where parameters name arguments with these texts is printed as `PrintsGiven` says.
+-- A tree that prints in each context where parameters name arguments with these texts prints as `PrintsGiven` says.
 pub made-given : {detail : Detail} (names : Names) (t : Term) (b : List ℕ) (r : Bool) → ((c : Context) → IsGiven detail names c → PrintsIn detail c 3 t b r)
     → ((arguments : Term) → AreSingle names arguments → pack_length arguments t ≡ None) → is_function_type t ≡ false → length_if_pack t ≡ None
     → ((c : Context) (p : Term) → component_parts c t p ≡ joined_to left c c t p) → opening_text (last_piece t) ≡ codes "<" → PrintsGiven detail names t b r
@@ -111,7 +111,7 @@ types-given {detail} names name all e known k n is =
 
 -- ## Marks
 
--- A type prints another and a mark after it, and then the right text of the other.
+-- A type prints the left text of another type, a mark, and then the right text of that other type.
 record IsMarked (detail : Detail) (c : Context) (t made : Term) (mark : List ℕ) : Type 0 where
   pub left_is : parts_in detail c left made ≡ as_item left c t ∷ text mark ∷ []
   pub right_is : parts_in detail c right made ≡ as_item right c t ∷ []
@@ -267,7 +267,8 @@ const-as detail names is_dependent t b p =
 
 -- ## Parameters
 
--- What a lambda declares of its parameters prints nothing, so a parameter prints the text of the tree that it names.
+-- The declarations of a lambda's parameters print nothing. So a parameter that names a tree with a text has this tree
+-- as its one part.
 named : {detail : Detail} (form : Form) (k : ℕ) (a : Term) (b : List ℕ) (r : Bool) → Prints detail a b r → parameter_parts form k a ≡ as_item form closed a ∷ []
 unfolding parameter_parts parts_in left_parts not_empty piece_parts
 named {detail} form k (declaring heads parameters) b r p =
@@ -333,7 +334,7 @@ rvalue-again {detail} c k b p =
       some = inner.some;
     }
 
--- An rvalue reference to a reference prints the same where the argument has this text.
+-- Likewise where the argument has this text.
 pub rvalue-given : {detail : Detail} (names : Names) (k : ℕ) (b : List ℕ) → names k ≡ Some (record { bytes = b; reference = true })
     → PrintsGiven detail names (rvalue (parameter k)) b true
 unfolding pack_length is_function_type length_if_pack prefix_item component_parts last_piece opening_text

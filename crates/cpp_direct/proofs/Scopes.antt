@@ -1,4 +1,4 @@
--- What a parameter of a template may name, and where it is.
+-- What a parameter of a template may name, and where the named argument is.
 use Rattle.cpp_direct.proofs.Basics.{arguments_of, Around, before_arguments, count, Detail, element, has_return_type, inside, instance, is_structor, qualifiers_of, ref_of, Term, tree, tree_of, types_of, Bool, ◌+◌, ◌≡◌, ℕ, zero, suc, ◌<◌, List, [], ◌∷◌, ◌++◌, length, slice_get, Some, None, is_some, arith, ap, sym, ◌∙◌, subst, refl, true, false, false≢true, AreAmong, AreKnown, Argument, argument_of, Arguments, arguments_in, called_on, detail_of, has_const, HasArguments, HasNameSo, HasParameters, HasScope, is_within_type, IsAmong, IsNamedSo, IsOwnName, IsPackOf, IsScoped, list_with, Mark, nowhere, Open, place_of, PrintAllIn, PrintsName, qualifiers, Scope, Symbol}
 use Rattle.cpp_direct.proofs.Kept.{none-known, placed-stays}
 use Rattle.cpp_grammar.specs.Values as values
@@ -46,7 +46,7 @@ known-stay text more a ts tail known = (
   λ o. let h = known.1 o in (h.0, h.1, pack-stays text more a h.0 h.2),
 )
 
--- an element of the list of elements
+-- an element of a list is also in the list with a tail, at the same number
 pub element-there : (ts : List Term) (tail : Term) (k : ℕ) (t : Term) → slice_get ts k ≡ Some t
     → (element (list_with ts tail) k ≡ t) × (k < count (list_with ts tail))
 unfolding element count
@@ -64,7 +64,7 @@ name-stays {detail} text new more a own name grown p = record {
   named = p.named;
 }
 
--- a function stays with its name when more is written, and may have other parameters
+-- a function keeps its name when more is written, and may have other parameters then
 abbrev pub parameters-as : (s : Symbol) {extra more_extra : ℕ} {scope : Scope} (text new more : List ℕ) (mark : Mark) (start : ℕ) (a : Arguments) {ts us : List Term} {texts more_texts : List ℕ}
     (p : HasParameters s extra scope text mark start a ts texts) → new ≡ text ++ more → PrintAllIn (detail_of s) (types_of p.is_function.own) more_extra us more_texts
     → HasParameters s more_extra scope new mark start a us more_texts
@@ -90,7 +90,7 @@ entry-scoped scope around entry p rest apart own named h q e =
     let same : p ≡ q = cc (sym own ∙ is) in
     (named ∙ same, subst (λ (k : Arguments). HasScope k around) same h)
 
--- the places of arguments don't depend on whose encoding they are in
+-- the places of arguments don't depend on the encoding that the arguments are in
 pub arguments-named : {detail : Detail} (text : List ℕ) (place : ℕ) (a : Arguments) (name : Term) → HasArguments detail text a name
     → HasArguments detail text (record a { encoding = place }) name
 arguments-named text place a name has = (

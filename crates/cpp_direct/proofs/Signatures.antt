@@ -112,7 +112,7 @@ parameter-comes s w is_pointer a none =
 same-byte : (s : List ℕ) (at a b : ℕ) → StandsAt s at (a ∷ []) → StandsAt s at (b ∷ []) → a ≡ b
 same-byte s at a b p q = let e : a ∷ p.0 ≡ b ∷ q.0 = sym p.1 ∙ q.1 in cc e
 
--- another byte than R and O begins no reference
+-- a byte other than R and O begins no reference
 pub no-reference : (s : List ℕ) (at b : ℕ) → (b ≢ 0 → StandsAt s at (b ∷ [])) → b ≢ 0 → b ≢ 82 → b ≢ 79 → NoReference s at
 no-reference s at b stands some other another = ((λ p. other (same-byte s at b 82 (stands some) p)), λ p. another (same-byte s at b 79 (stands some) p))
 
@@ -122,7 +122,7 @@ reference-stands : (s : Symbol) (scope : Scope) (is_lvalue : Bool) (rest : List 
 reference-stands s scope true rest os text from marks = marks
 reference-stands s scope false rest os text from marks = marks
 
--- in the referenced type no parameter of a template is named
+-- no parameter of a template is named in the referenced type
 reference-scoped : (scope : Scope) (around : Around) (is_lvalue : Bool) (from : ℕ) (is_pointer : Bool) (rest : List Open)
     → IsScoped scope around (reference_entry is_lvalue from ∷ Open.Signature is_pointer ∷ rest)
 reference-scoped scope around true from is_pointer rest = none-scoped scope around (Open.Lvalue from ∷ Open.Signature is_pointer ∷ rest) refl
@@ -230,7 +230,7 @@ hidden-candidates : (s : Symbol) (scope : Scope) (w : Direct) (is_pointer : Bool
 hidden-candidates s scope w true text made_in t st p = hidden-accessed s scope Access.Pointer w.candidates.list.items text made_in t st p
 hidden-candidates s scope w false text made_in t st p = hidden-accessed s scope Access.Plain w.candidates.list.items text made_in t st p
 
--- what waits for a function type, once the entry that was open for it is removed
+-- what waits for a function type, once the entry for that type is removed
 pub still-popped : (s : Symbol) (old new : Direct) (is_pointer : Bool) (p : IsFunctionRead s old is_pointer) (left : List Open) (size : ℕ)
     → new.waiting ≡ old.waiting → size ≡ length new.waiting.list.items → left ≡ take (size - 1) new.waiting.list.items → reverse left ≡ p.taker.rest
 still-popped s old new is_pointer p left size same length_is is =
@@ -263,7 +263,7 @@ function-handed s old new is_pointer p text candidates scope_same waits at =
       refers = λ e. cc e;
     }
 
--- an entry that accepts a function type accepts elements, unless it is parameters or a special object
+-- an entry that accepts a function type accepts elements, unless it is one for parameters or for a special object
 pub takes-as-element : (o : Open) (rest : List Open) → TakesFunction (o ∷ rest) → ((x : Mark) (y : ℕ) (z : Arguments) → o ≡ Open.Parameters x y z → ⊥)
     → (o ≡ Open.Special → ⊥) → ((x : Mark) (y t : ℕ) → o ≡ Open.Enclosing x y t → ⊥)
     → ((x : Mark) (y t : ℕ) (w : Arguments) → o ≡ Open.EnclosingInstance x y t w → ⊥) → ((x y : ℕ) (w : Arguments) → o ≡ Open.Element x y w → ⊥) → TakesElements o

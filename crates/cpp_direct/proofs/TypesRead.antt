@@ -41,7 +41,7 @@ mark-answer s old mid new mark from r d a waits text candidates scope at lists =
 
 -- ## Names of types
 
--- the name of a type became a candidate, unless it was one
+-- the name of a type became a candidate, unless it was one already
 abbrev named-kept : (s : Symbol) (old new : Direct) (from : ℕ) (listed r : Bool) (a : IsTypeNamed s old from listed r)
     → Lists old new (added_unless old listed from false) → Kept s new
 named-kept s old new from listed r a lists =
@@ -128,7 +128,7 @@ whole-awaited s w p = elim p.is_before.1 [
   | inr (inr awaits) ↦ (record { kept = p.kept; awaited = p.is_before.0; kind = Kind.ItemButRef; typed = tt; referable = inr awaits.1; awaits = awaits.0 }, tt)
 ]
 
--- what is expected where a type is
+-- at a step that takes a type, whole or plain, a type is expected
 pub awaits-type : (s : Symbol) (w : Direct) (is_plain : Bool) → IsWriting s w (if is_plain then Step.Plain else Step.Type) → AwaitsType s w
 awaits-type s w true p = record { kept = p.kept; awaited = p.is_before.0; kind = Kind.Plain; typed = tt; referable = inl tt; awaits = p.is_before.1 }
 awaits-type s w false p = (whole-awaited s w p).0
@@ -266,7 +266,7 @@ substitution-named s old mid new n from digits k a stands is ordered found reads
     let prints = subst (λ b. PrintsAs (detail_of s) a.scope.names b c.0.tree c.2.bytes k.is_reference) plain c.2.prints in
     named-from s old new from true k.is_reference a c.0.tree c.2.bytes
     (substitution-opens s a.kind a.around a.os old.at a.state digits new.at c.0 a.is_named c.1
-    (λ place. substituted-so a.around place c.0 a.state (no-module c.0.tree prints.as_prefix) prints.is_closed prints.packless) a.begins stands
+    (λ place. substituted-so s.is_wide a.around place c.0 a.state (no-module c.0.tree prints.as_prefix) prints.is_closed prints.packless) a.begins stands
     (subst (λ n. IsSeqAt s.bytes (old.at + 1) digits n) (sym writes.at) is))
     (writes.candidates ∙ reads.candidates) (writes.scope ∙ reads.scope) written begins prints (λ e. cc e) (writes.waiting ∙ reads.waiting)
 

@@ -2,7 +2,7 @@
 use Rattle.cpp_direct.proofs.AllGround.{◌≡◌, ◌≢◌, ℕ, ◌+◌, length, List, [], ◌∷◌, ◌++◌, Bool, true, false, not, cond, refl, ap, sym, subst, ◌∙◌, arith, append_assoc, codes, append-nil, false≢true, after, alone, any_value, arguments_of, encoding_of, first_around, first_state, has_return_type, in_name, in_std, in_types, inside, instance, is_structor, Kind, may_be_empty, no_items, object, of_name, operator, source, source_text, State, Term, tree_of, Value, with_tag, piece, tree, qualifiers_of, ref_of, nothing_there, named, unqualified, added, AwaitsEncoding, AwaitsEntity, AwaitsSource, detail_of, Direct, Encoded, encoding_place, EntityBehind, HasName, is_angle, is_local, IsFresh, IsNameEnded, IsOperatorAt, IsSymbolEnded, IsUnscoped, IsWriting, ItemsOf, Kept, Lists, no_scope, nowhere, OpensArguments, operator_text, Prints, PrintsName, Reads, Shows, Symbol, tag_text, Writes, Comes, Discriminator, EncodingOpened, GuardOpened, IsDiscriminatorAt, IsEntityAt, IsNameAt, IsTagAt, LocalOpened, Named, Opened, StandsAt, SymbolOpened, entity_in, Mark, Open, Step, name-unmarked, no-arguments, alone-arguments, expects-empty, stands-join, stands-split, kept-grown, kept-read, kept-same, none-kept, list-begins, kept-with, reads-then, reads-of, arguments-open, piece-comes, tag-follows, operator-listed, as-name, source-prints, std-prints, operator-names, operator-prints, std-operator-names, std-operator-prints, guarded-shows, has-plain}
 use Rattle.cpp_direct.proofs.AllRead.{encoding-expected, items-await, encoded-whole, tagged-names, tagged-prints, name-source, name-internal, name-operator, name-std, operator-piece-comes, symbol-starts, encoding-opens, guard-opens, local-opens, entity-shows}
 
--- a test whose negation is true is false
+-- a test is false if its negation is true
 pub not-so : (b other : Bool) → b ≡ other → not b ≡ true → other ≡ false
 not-so true other e h = absurd (false≢true h)
 not-so false other e h = sym e
@@ -197,7 +197,7 @@ object-comes s opened_ encoding_ v at st comes =
     let items = encoding_.onward v at st comes in
     items.onward nothing_there at st (expects-empty s Kind.Items (in_types 2 (tree_of v)) items.inner at st items.awaits refl)
 
--- expects the encoding that contains an entity, after a text that is shown before the encoding's
+-- expects the encoding that contains an entity, after a text that is shown before the encoding's text
 entity-awaited : (s : Symbol) (opened_ : SymbolOpened s) (w : Direct) (lead : List ℕ) (outer : List Opened) (made : Term → Term) → is_local s.bytes ≡ true
     → w.text.list.items ≡ lead → w.candidates.list.items ≡ [] → (w.text.list.items ≡ [] → w.at ≡ encoding_place s.bytes) → LocalOpened s outer (in_name 2) w.at first_state
     → ((t : Term) (at : ℕ) (st : State) → Comes s outer (named t unqualified any_value) at st → Comes s opened_.inner (tree (made t) true) at st)
@@ -255,7 +255,7 @@ items-whole s opened_ encoding_ v at st comes =
 one-byte : (s : List ℕ) (at a b : ℕ) → StandsAt s at (a ∷ []) → StandsAt s at (b ∷ []) → a ≡ b
 one-byte s at a b x y = cc (sym x.1 ∙ y.1)
 
--- a symbol of a local entity begins, with no text before the encoding's
+-- a symbol of a local entity begins, with no text before the encoding's text
 pub local-begins : (s : Symbol) (w : Direct) → IsFresh w → is_local s.bytes ≡ true → StandsAt s.bytes 0 (95 ∷ 90 ∷ []) → StandsAt s.bytes 2 (90 ∷ [])
     → AwaitsEncoding s (record w { at = 3 })
 unfolding tree_of qualifiers_of ref_of first_state

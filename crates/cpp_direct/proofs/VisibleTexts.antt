@@ -110,7 +110,7 @@ instance-cost f h each c t a = omega (arith, each (record { tree = t; form = lef
 
 -- ## Items
 
--- What is written of a tree in a form is what it prints, unless it is an instance.
+-- What is written of a tree in a form is what the tree prints, unless it is an instance.
 abbrev Views : Detail → Context → Form → Term → Type 0
 Views d c form t =
     (written_in d c form t ≡ unmarked_parts (has_arguments d) (parts_in d c form t))
@@ -125,7 +125,8 @@ views d c left t = inl refl
 views d c low t = inl refl
 views d c form t = inl refl
 
--- a relation between what is written of an item and what it prints holds if it holds for plain parts and for instances
+-- a relation between what is written of an item and what the item prints holds if it holds for plain parts and for
+-- instances
 step : (Q : List (PartOf Item) → List (PartOf Item) → Type 0) (d : Detail) → has_arguments d ≡ false
     → ((ps : List (PartOf Item)) → Q (not_empty (unmarked_parts false ps)) (not_empty ps))
     → ((c : Context) (t a : Term) → Q (not_empty (written_instance false c t a)) (not_empty (instance_parts false c t a)))
@@ -168,7 +169,8 @@ cost-to d brief (suc n) i =
     step (λ ps qs. cost_of (printed_parts h qs) ≤ cost_of (printed_parts f ps)) d brief (λ ps. parts-cost f h (cost-to d brief n) ps)
     (λ c t a. instance-cost f h (cost-to d brief n) c t a) i
 
--- **What is visible of what is written of an item is what it shows**, where no byte of that is a mark.
+-- **The visible bytes of what is written of an item are what the item shows**, where no byte of what it shows is a
+-- mark.
 visible-written : (d : Detail) → has_arguments d ≡ false → (i : Item) → visible 0 (text_of (written d i)) ≡ unmarked false (text_of (shown d i))
 unfolding printed visible
 visible-written d brief i =
@@ -238,7 +240,7 @@ whole-by : (is_bare : Bool) → has_arguments (detail_by is_bare false) ≡ true
 whole-by true = refl
 whole-by false = refl
 
--- What is visible of what was written of a whole symbol is what the symbol shows.
+-- The visible bytes of what was written of a whole symbol are what the symbol shows.
 pub brief-shown : (s : Symbol) → s.is_brief ≡ true → (old new : List ℕ) → IsWhole s old → new ≡ visible 0 old → HasNoZero new → IsShown s (length old) new
 brief-shown s brief old new p is plain =
     let d = detail_of s in
@@ -261,7 +263,7 @@ whole-shown s whole bytes p =
     let same : written d i ≡ shown d i = same-to d (ap (λ b. has_arguments (detail_by s.is_bare b)) whole ∙ whole-by s.is_bare) (suc (rank i)) i in
     record { whole = p.whole; stands = p.stands; text_is = ap text_of (sym same) ∙ p.text_is; cost = omega (arith, p.cost, ap cost_of same) }
 
--- What is visible is shown if anything is visible, and if no byte of it is 0.
+-- The visible bytes are what is shown, if there are any and none of them is 0.
 pub left-shown : {T : Type 0} (r : Option T) (s : Symbol) → s.is_brief ≡ true → (old new : List ℕ) → IsWhole s old → OnSome r (new ≡ visible 0 old)
     → OnSome r (HasNoZero new) → OnSome r (IsShown s (length old) new)
 left-shown None s brief old new p is plain = tt

@@ -16,7 +16,7 @@ is_builtin_with_d byte = among builtin_letters_with_d byte
 unfoldable pub is_abbreviated : ℕ → Bool
 is_abbreviated byte = among abbreviation_letters byte
 
--- no twenty digits are side by side; `run` is the number of digits just before the list
+-- no run of digits has twenty; `run` is the number of digits just before the list
 unfoldable pub short_numbers : (run : ℕ) → List ℕ → Bool
 short_numbers run [] = true
 short_numbers run (b ∷ bs) = elim (is_decimal_digit b) [ true ↦ nat_lt run 19 && short_numbers (run + 1) bs | false ↦ short_numbers 0 bs ]

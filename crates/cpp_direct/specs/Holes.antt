@@ -1,5 +1,5 @@
--- What the open rules of a symbol still need, while it is read from left to right and nothing is known of the bytes that follow:
--- once they have it, the whole symbol is read.
+-- What the open rules of a symbol still need while the symbol is read from left to right, and nothing is known of the bytes that
+-- follow. Once the rules have what they need, the whole symbol is read.
 use Rattle.std.specs.Prelude.{◌≡◌, ℕ, ◌+◌, List, [], ◌∷◌, ◌++◌, length, Bool, true, false}
 use Rattle.sym_core.specs.declared.NameClass.TheVariants.{Cpp}
 use Rattle.sym_core.specs.declared.NumberKind.{NumberKind}
@@ -16,12 +16,13 @@ use Rattle.cpp_grammar.specs.Term.{Term, any_value, instance, list}
 use Rattle.cpp_grammar.specs.Values.{by_all, Candidate, State, Around, Value, nothing_there, tree, named, unqualified}
 use Rattle.cpp_grammar.specs.References.{is_function_type}
 use Rattle.cpp_grammar.specs.Between.{after, no_items}
-use Rattle.cpp_grammar.specs.Unfolding.{cpp, first_around, first_state}
+use Rattle.cpp_grammar.specs.Unfolding.{first_around, first_state}
+use Rattle.cpp_short_reading.specs.Reading.{cpp_by}
 use Rattle.cpp_direct.specs.Symbol.{Symbol, table_by}
 
 -- C++ as a language for this reader
 abbrev pub cpp_language : Symbol → Language Value State Around
-cpp_language s = record { table = table_by s.is_wide; reading = λ bytes. cpp; first_context = first_around; first_state = first_state }
+cpp_language s = record { table = table_by s.is_wide; reading = λ bytes. cpp_by s.is_wide; first_context = first_around; first_state = first_state }
 
 abbrev pub Opened : Type 0
 Opened = direct.Opened Value State Around
@@ -119,7 +120,7 @@ IsListKind Kind.PackList = Unit {0}
 IsListKind Kind.Items = Unit {0}
 IsListKind _ = ⊥
 
--- what the inner rules accept, the outer rules accept, too
+-- the outer rules accept what the inner rules accept
 abbrev pub SamePasses : (s : Symbol) → (inner outer : List Opened) → Type 0
 SamePasses s inner outer = (v : Value) (at : ℕ) (st : State) → Comes s inner v at st → Comes s outer v at st
 
@@ -149,7 +150,7 @@ pub record Named (s : Symbol) (outer : List Opened) (around : Around) (t : Term)
   pub argued : (a : Term) (at : ℕ) (st : State) → Comes s inner (tree a true) at st → Comes s outer (tree (instance t a) false) at st
   pub renamed : (u : Term) (at : ℕ) (st : State) → Comes s inner (bare_name u) at st → Comes s outer (tree u false) at st
 
--- A nested name is read as far as this tree, and expects its rest as this kind; the outer rules accept the whole.
+-- A nested name is read as far as this tree, and its rest is expected as this kind; the outer rules accept the whole.
 pub record NestGoesOn (s : Symbol) (kind : Kind) (outer : List Opened) (around : Around) (t : Term) (listed : Bool) (at : ℕ) (st : State) : Type 0 where
   pub inner : List Opened
   pub awaits : Expects s kind (after t listed around) inner at st
@@ -162,7 +163,7 @@ pub record AwaitsComponent (s : Symbol) (outer : List Opened) (around : Around) 
   pub awaits : Expects s Kind.Component (after t listed around) inner at st
   pub onward : (u : Term) (at : ℕ) (st : State) → Comes s inner (tree u false) at st → NestGoesOn s Kind.NestTail outer around u false at st
 
--- A component was read, or a name in std at the front of a nested name; arguments or tags may follow it.
+-- A component, or a name in std at the front of a nested name, was read; arguments or tags may follow it.
 pub record NestNamed (s : Symbol) (outer : List Opened) (around : Around) (t : Term) (at : ℕ) (st : State) : Type 0 where
   pub inner : List Opened
   pub awaits : Expects s Kind.MaybeArguments (after t false around) inner at st

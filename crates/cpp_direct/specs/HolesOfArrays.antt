@@ -26,12 +26,12 @@ access_letters accesses.Plain = 65 ∷ []
 access_letters accesses.Pointer = 80 ∷ 65 ∷ []
 access_letters accesses.Lvalue = 82 ∷ 65 ∷ []
 
--- the array is behind a pointer or a reference
+-- a pointer or a reference to the array is read
 abbrev pub is_marked : Access → Bool
 is_marked accesses.Plain = false
 is_marked _ = true
 
--- the array is behind a reference
+-- a reference to the array is read
 abbrev pub is_lvalue : Access → Bool
 is_lvalue accesses.Lvalue = true
 is_lvalue _ = false

@@ -36,7 +36,7 @@ FunctionOpened s outer around is_pointer at st = Awaits s Kind.Type around at st
     (r : Term) (at : ℕ) (st : State) → Comes s inner (tree r true) at st
     → SignatureGoesOn s outer around is_pointer (λ l. plain_function r l) at st)
 
--- A parameter that is no reference is expected.
+-- Expects a parameter that isn't a reference.
 pub record ParameterOpened (s : Symbol) (outer : List Opened) (made_in : Around) (is_pointer : Bool) (made : Term → Term) (at : ℕ) (st : State) : Type 0 where
   pub around : Around
   pub outside : around.prefix ≡ outermost

@@ -15,7 +15,7 @@ template_named name = alone (source false name)
 abbrev pub member_of : (instance : Term) → (name : List ℕ) → Term
 member_of u name = operation 115 114 u (alone (source false name))
 
--- Expects an E, the name of a member of the instance, and another E; the open rules accept the member then.
+-- Expects an E, the name of a member of the instance, and another E; then the open rules accept the member.
 abbrev pub MemberComes : (s : Symbol) → List Opened → (instance : Term) → (at : ℕ) → State → Type 0
 MemberComes s os u at st =
     (name : List ℕ) (end : ℕ) → StandsAt s.bytes at (69 ∷ []) → IsNameAt s.bytes (at + 1) name end → StandsAt s.bytes end (69 ∷ [])

@@ -1,4 +1,5 @@
--- What is expected in lists, in encodings and in whole symbols, and what the rules around it accept then.
+-- What is expected in lists, in encodings and in whole symbols, and what the surrounding rules accept once that is
+-- read.
 use Rattle.std.specs.Prelude.{◌≡◌, ℕ, ◌+◌, List, [], ◌∷◌, ◌++◌, length, Bool, true, false, Ok}
 use Rattle.std.specs.List.{AllByRecursion}
 use Rattle.sym_core.specs.declared.NumberKind.TheVariants.{Digits}
@@ -16,7 +17,7 @@ use Rattle.cpp_direct.specs.ItemBytes.{is_suffix_byte}
 
 -- ## Lists
 
--- After an I the arguments are expected; at an E they are the arguments of what precedes them.
+-- Expects arguments after an I. At their E, they become the arguments of what precedes the I.
 abbrev pub ArgumentsOpened : (s : Symbol) (outer : List Opened) (around : Around) (at : ℕ) (st : State) → Type 0
 ArgumentsOpened s outer around at st = Awaits s Kind.ArgumentList (inside around) at st (λ inner.
     (l : Value) (at : ℕ) (st : State) → Comes s inner l at st → StandsAt s.bytes at (69 ∷ [])
@@ -28,13 +29,13 @@ IsArgumentKind Kind.ArgumentList = Unit {0}
 IsArgumentKind Kind.PackList = Unit {0}
 IsArgumentKind _ = ⊥
 
--- After an L expects a literal, which ends at an E.
+-- Expects a literal after an L; the literal ends at an E.
 abbrev pub LiteralOpened : (s : Symbol) (kind : Kind) (outer : List Opened) (around : Around) (at : ℕ) (st : State) → Type 0
 LiteralOpened s kind outer around at st = Awaits s Kind.Literal around at st (λ inner.
     (t : Term) (at : ℕ) (st : State) → Comes s inner (tree t true) at st → StandsAt s.bytes at (69 ∷ [])
     → ListGoesOn s kind outer around t (at + 1) st)
 
--- After a J expects the elements of a pack, which ends at an E.
+-- Expects the elements of a pack after a J; the pack ends at an E.
 abbrev pub PackOpened : (s : Symbol) (outer : List Opened) (around : Around) (at : ℕ) (st : State) → Type 0
 PackOpened s outer around at st = Awaits s Kind.PackList around at st (λ inner.
     (l : Value) (at : ℕ) (st : State) → Comes s inner l at st → StandsAt s.bytes at (69 ∷ [])
@@ -49,7 +50,7 @@ abbrev pub minus_sign : Bool → List ℕ
 minus_sign true = 110 ∷ []
 minus_sign false = []
 
--- After an L expects the type of an enumerator, then its number and an E.
+-- Expects the type of an enumerator after an L, then its number and an E.
 pub record EnumeratorOpened (s : Symbol) (kind : Kind) (outer : List Opened) (around : Around) (at : ℕ) (st : State) : Type 0 where
   pub inner : List Opened
   pub opens : TreeOpens s Kind.LiteralType inner around at st
@@ -57,7 +58,7 @@ pub record EnumeratorOpened (s : Symbol) (kind : Kind) (outer : List Opened) (ar
       → StandsAt s.bytes at (minus_sign negative) → IsDigitsAt s.bytes (at + length (minus_sign negative)) digits end → StandsAt s.bytes end (69 ∷ [])
       → ListGoesOn s kind outer around (integer t (signed_digits negative digits)) (end + 1) st
 
--- After XadL_Z expects the encoding whose address an argument is, then two E.
+-- Expects an encoding after XadL_Z, and then two E; the argument is the encoding's address.
 abbrev pub AddressOpened : (s : Symbol) (outer : List Opened) (around : Around) (at : ℕ) (st : State) → Type 0
 AddressOpened s outer around at st = Awaits s Kind.Encoding around at st (λ inner.
     (e : Term) (at : ℕ) (st : State) → Comes s inner (tree e true) at st → StandsAt s.bytes at (69 ∷ 69 ∷ [])

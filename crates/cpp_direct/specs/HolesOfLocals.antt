@@ -1,10 +1,11 @@
 -- What is expected in the name of a local entity, and what the rules around it accept then.
 use Rattle.std.specs.Prelude.{◌≡◌, ◌≢◌, ℕ, ◌+◌, ◌≤◌, List, [], ◌∷◌, ◌++◌, length, Bool, true, false, cond, Option, Some, None}
 use Rattle.cpp_grammar.specs.declared.kind.Kind.{Kind}
-use Rattle.cpp_grammar.specs.Term.{Qualifiers, RefQualifier, explicit_object, Term, any_value, of_name, local, within, source, lambda}
+use Rattle.cpp_grammar.specs.Term.{Qualifiers, RefQualifier, explicit_object, Term, any_value, of_name, local, within, source}
 use Rattle.cpp_grammar.specs.Values.{State, Around, Value, local_number, normal, nothing_there, text, tree, named, unqualified, tree_of, qualifiers_of, ref_of}
 use Rattle.cpp_grammar.specs.Between.{after, in_name}
 use Rattle.cpp_grammar.specs.Meaning.{discriminator_of, parameters}
+use Rattle.cpp_short_reading.specs.Reading.{lambda_by}
 use Rattle.cpp_direct.specs.Symbol.{Symbol}
 use Rattle.cpp_direct.specs.Holes.{Awaits, Comes, Expects, IsNameAt, Named, NestGoesOn, Opened, StandsAt}
 use Rattle.cpp_direct.specs.HolesOfLists.{IsDigitsAt, nest_marks}
@@ -28,7 +29,7 @@ IsDiscriminatorAt s at (by_digit digit) end = (48 ≤ digit) × (digit ≤ 57) �
 IsDiscriminatorAt s at (by_digits digits) end =
     (middle : ℕ) × StandsAt s at (95 ∷ 95 ∷ []) × IsDigitsAt s (at + 2) digits middle × StandsAt s middle (95 ∷ []) × (end ≡ middle + 1)
 
--- at the place are an E and an entity with this name and this discriminator, and `end` is the place after them
+-- an E and an entity with this name and this discriminator are at the place, and `end` is the place after them
 pub record IsEntityAt (s : List ℕ) (at : ℕ) (internal : Bool) (name : List ℕ) (digit : Discriminator) (end : ℕ) : Type 0 where
   pub first : StandsAt s at (69 ∷ [])
   pub letter : internal ≡ true → StandsAt s (at + 1) (76 ∷ [])
@@ -92,7 +93,7 @@ pub record EntityOpened (s : Symbol) (becomes : Term → (at : ℕ) → State �
   pub onward : (p : Term) (at : ℕ) (st : State) → Comes s inner (tree (within e p) false) at st → (digit : Discriminator) (end : ℕ)
       → IsDiscriminatorAt s.bytes at digit end → becomes (local_in e p digit) end st
 
--- Expects the encoding that contains a type, and after it the type.
+-- Expects the encoding that contains a type, and then the type.
 abbrev pub LocalTypeOpened : (s : Symbol) (outer : List Opened) (around : Around) (at : ℕ) (st : State) → Type 0
 LocalTypeOpened s outer around at st = Awaits s Kind.Encoding around at st (λ inner.
     (e : Term) (at : ℕ) (st : State) → Comes s inner (tree e true) at st → StandsAt s.bytes at (69 ∷ [])
@@ -114,8 +115,8 @@ IsLambdaDigit None = Unit {0}
 IsLambdaDigit (Some digit) = (48 ≤ digit) × (digit ≤ 55)
 
 -- a lambda with these parameters, and with the number that this digit denotes
-abbrev pub lambda_with : (items : Term) → (number : Option ℕ) → Term
-lambda_with items number = lambda (parameters items) (local_number (lambda_digits number))
+abbrev pub lambda_with : (is_wide : Bool) → (items : Term) → (number : Option ℕ) → Term
+lambda_with is_wide items number = lambda_by is_wide (parameters items) (local_number (lambda_digits number))
 
 -- the bytes after a lambda's parameters
 abbrev pub lambda_ending : Option ℕ → List ℕ
@@ -125,7 +126,7 @@ lambda_ending number = 69 ∷ (lambda_digits number ++ 95 ∷ [])
 abbrev pub LambdaEnds : (s : Symbol) → (becomes : Term → (at : ℕ) → State → Type 0) → (items : Term) → (at : ℕ) → State → Type 0
 LambdaEnds s becomes items at st =
     (number : Option ℕ) (end : ℕ) → IsLambdaDigit number → StandsAt s.bytes at (lambda_ending number) → end ≡ at + length (lambda_ending number)
-    → becomes (lambda_with items number) end st
+    → becomes (lambda_with s.is_wide items number) end st
 
 -- Expects the name of the variable that a guard variable guards, in an encoding that begins at a place.
 abbrev pub GuardOpened : (s : Symbol) (outer : List Opened) (encoding : ℕ) (at : ℕ) (st : State) → Type 0

@@ -21,7 +21,7 @@ IsFirstRest Kind.NestRestAlone = Unit {0}
 IsFirstRest Kind.NestRestOrEnd = Unit {0}
 IsFirstRest _ = ⊥
 
--- Expects arguments of the name so far after an I, and after their E a component.
+-- After an I, expects arguments of the name so far; after their E, expects a component.
 abbrev pub AwaitsArguments : (s : Symbol) (outer : List Opened) (around : Around) (t : Term) (listed : Bool) (at : ℕ) (st : State) → Type 0
 AwaitsArguments s outer around t listed at st = Awaits s Kind.ArgumentList (inside around) (at + 1) (unless_listed listed around t st) (λ inner.
     (l : Value) (at : ℕ) (st : State) → Comes s inner l at st → StandsAt s.bytes at (69 ∷ [])

@@ -46,7 +46,7 @@ parameter_digits (suc before) = (48 + before) ∷ []
 abbrev pub most_by_digit : ℕ
 most_by_digit = 10
 
--- each known argument was known before, or has this number and its text between the two places
+-- each known argument was known before, or has this number, and its text is between the two places
 abbrev pub KnowsMore : (old new : Arguments) → (number from to : ℕ) → (is_reference : Bool) → Type 0
 KnowsMore old new number from to is_reference =
     (k : ℕ) → IsKnown new k
@@ -68,7 +68,7 @@ pub record AwaitsEncoding (s : Symbol) (w : Direct) : Type 0 where
   pub awaits : Expects s Kind.Encoding around outer w.at state
   pub onward : (e : Term) (at : ℕ) (st : State) → Comes s outer (tree e true) at st → EncodedBehind s w.text.list.items e at st
 
--- the name of an encoding is expected, or that of an object
+-- the name of an encoding or of an object is expected
 pub record AwaitsName (s : Symbol) (w : Direct) : Type 0 where
   pub kept : Kept s w
   pub open kept use *
@@ -140,7 +140,7 @@ pub record IsNamedAgain (s : Symbol) (w : Direct) (k : Candidate) : Type 0 where
   pub ordered : k.from ≤ k.to
   pub is : k.is_dependent ≡ true
 
--- the name of a type was read, and written from a place on; the type is a candidate already or not
+-- the name of a type was read, and written from a place on; the type may be a candidate already
 pub record IsTypeNamed (s : Symbol) (w : Direct) (from : ℕ) (is_listed is_reference : Bool) : Type 0 where
   pub kept : Kept s w
   pub open kept use *
@@ -158,7 +158,7 @@ pub record IsTypeNamed (s : Symbol) (w : Direct) (from : ℕ) (is_listed is_refe
   pub stands : Stands s scope (reverse w.waiting.list.items) outer front
   pub scoped : IsScoped scope around (reverse w.waiting.list.items)
 
--- A type was read that the innermost entry is to mark. It was written from a place on, except for its mark.
+-- A type that the innermost entry is to mark was read. It was written from a place on, except for its mark.
 pub record AwaitsMark (s : Symbol) (w : Direct) (mark : List ℕ) (from : ℕ) (is_reference is_dependent : Bool) : Type 0 where
   pub kept : Kept s w
   pub open kept use *
@@ -175,7 +175,7 @@ pub record AwaitsMark (s : Symbol) (w : Direct) (mark : List ℕ) (from : ℕ) (
   pub from_is : from ≡ length front
   pub prints : PrintsAs (detail_of s) scope.names is_dependent made (bytes ++ mark) is_reference
   pub naming : is_dependent ≡ true → IsNaming scope rest
-  pub made_here : is_dependent ≡ true → IsMadeIn scope made_in.encoding
+  pub made_here : is_dependent ≡ true → IsMadeIn scope made_in.encoding made_in.in_lambda
   pub stands : Stands s scope rest outer front
 
 -- the entry that waits for an argument of a name, or for an element of a pack among the arguments
@@ -188,7 +188,8 @@ abbrev pub argument_around : (is_pack : Bool) → (owner : Open) → (rest : Lis
 argument_around false owner rest = owner ∷ rest
 argument_around true owner rest = opens.Pack ∷ owner ∷ rest
 
--- An argument of a name was read, or an element of a pack among the arguments, after `number` others: a type or a literal.
+-- A type or a literal was read after `number` others, as an argument of a name or as an element of a pack among the
+-- arguments.
 pub record IsArgumentRead (s : Symbol) (w : Direct) (is_pack : Bool) (from number : ℕ) (known : Arguments) (is_reference : Bool) : Type 0 where
   pub kept : Kept s w
   pub open kept use *
@@ -214,7 +215,7 @@ pub record IsArgumentRead (s : Symbol) (w : Direct) (is_pack : Bool) (from numbe
   pub prints : PrintsListed is_pack (detail_of s) t bytes is_reference
   pub goes : GoesOn s (arguments_or_pack is_pack before before_text) owner (below s scope rest) front template (ts ++ t ∷ []) w.at state
 
--- Expects another argument or element after `last` + 1 arguments; `known` are the known ones.
+-- Expects another argument or element after `last` + 1 arguments; `known` are the known arguments.
 pub record AwaitsKnownArgument (s : Symbol) (w : Direct) (is_pack : Bool) (last : ℕ) (known : Arguments) : Type 0 where
   pub kept : Kept s w
   pub open kept use *
@@ -257,7 +258,7 @@ pub record IsNestKnown (s : Symbol) (w : Direct) : Type 0 where
   pub listed : w.nest.is_listed ≡ true
   pub no_structor : w.nest.has_class ≡ true → is_structor own ≡ false
 
--- A component of a nested name was read, or a name in std. Arguments or tags may follow it.
+-- A component of a nested name, or a name in std, was read. Arguments or tags may follow it.
 pub record IsNestNamed (s : Symbol) (w : Direct) : Type 0 where
   pub kept : Kept s w
   pub open kept use *
@@ -472,7 +473,8 @@ IsPassedClosed (opens.Front mark start argument) = ⊥
 IsPassedClosed (opens.Parameters mark start argument) = ⊥
 IsPassedClosed _ = Unit {0}
 
--- an entry for arguments, as it is before and after it notes that one of them names an argument of the function's template
+-- an entry for arguments, as it is before and after the entry notes that one of them names an argument of the function's
+-- template
 abbrev pub IsDependentNow : (old new : Open) → Type 0
 IsDependentNow (opens.TypeArguments from is_dependent) new = new ≡ opens.TypeArguments from true
 IsDependentNow (opens.NestArguments nest) new = (nest.purpose ≡ purposes.Type) × (new ≡ opens.NestArguments (record nest { is_dependent = true }))
@@ -609,7 +611,7 @@ pub record IsArrayRead (s : Symbol) (w : Direct) (access : Access) (from to : �
   pub comes : Comes s taker.outer (tree (accessed access (array (values.normal digits) first.own)) true) w.at
       (with_accessed access taker.made_in (array (values.normal digits) first.own) state)
 
--- The return type of a function type was read, and some parameters or none; more parameters may follow.
+-- The return type and any number of parameters of a function type were read; more parameters may follow.
 pub record AwaitsSignature (s : Symbol) (w : Direct) (is_pointer is_first : Bool) : Type 0 where
   pub kept : Kept s w
   pub open kept use *
@@ -647,7 +649,7 @@ pub record IsReturned (s : Symbol) (w : Direct) (is_pointer : Bool) : Type 0 whe
   pub written : w.text.list.items ≡ taker.front ++ first.bytes
   pub goes : SignatureGoesOn s taker.outer taker.made_in is_pointer (λ l. plain_function first.own l) w.at state
 
--- A function type was read, or a pointer to one, and written except for its last bracket.
+-- A function type or a pointer to one was read, and written except for its last bracket.
 pub record IsFunctionRead (s : Symbol) (w : Direct) (is_pointer : Bool) : Type 0 where
   pub kept : Kept s w
   pub open kept use *

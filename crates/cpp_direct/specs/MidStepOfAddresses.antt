@@ -12,7 +12,7 @@ use Rattle.cpp_direct.specs.Holes.{Comes, Expects, Opened}
 use Rattle.cpp_direct.specs.MidStepOfLocals.{AwaitsLedParameters, IsInnerFrontRead, IsLedFunctionRead, IsLedParameterRead}
 use Rattle.cpp_direct.specs.WriterInvariant.{AddressWithin, AwaitsTypeIn, HasArguments, HasNameSo, IsAddressed, Kept, Stands, below, no_scope}
 
--- Expects an argument of a name, with an entry open that accepts a type.
+-- Expects an argument of a name, with an open entry that accepts a type.
 pub record AwaitsArgumentOfName (s : Symbol) (w : Direct) : Type 0 where
   pub kept : Kept s w
   pub open kept use *
@@ -40,8 +40,8 @@ IsAddressedFrontRead s w mark to argument =
     IsInnerFrontRead s w mark argument (opens.AddressedFront mark to argument) (λ scope. IsAddressed s scope to argument)
     (λ scope waits. AddressWithin s (below s no_scope waits))
 
--- The name of a function whose address is an argument is written, and its return type was read if it has one. Expects its
--- parameters.
+-- The name of a function whose address is an argument is written, and the function's return type was read if there is
+-- one. Expects the function's parameters.
 abbrev pub AwaitsAddressedParameters : (s : Symbol) → (w : Direct) → Mark → (to : ℕ) → Arguments → Type 0
 AwaitsAddressedParameters s w mark to argument =
     AwaitsLedParameters s w 3 mark argument (λ scope. IsAddressed s scope to argument) (λ scope waits. AddressWithin s (below s no_scope waits))

@@ -61,8 +61,8 @@ pub record IsInstanceNamed (s : Symbol) (w : Direct) (mark : Mark) (encoding fro
   pub names : HasArguments (detail_of s) w.text.list.items w.argument own
   pub items : ItemsOf s encoding (TypeWithin s (below s scope (reverse w.waiting.list.items)) lead) v w.at state
 
--- The name of a function was read after a text, and its return type if it has one. Expects its parameters. `Leads` holds of the
--- name and the text before it, and `Within` of the function once the parameters are read.
+-- The name of a function was read after a text, and so was the function's return type if there is one. Expects the function's
+-- parameters. `Leads` holds of the name and the text before it, and `Within` of the function once the parameters are read.
 pub record AwaitsLedParameters (s : Symbol) (w : Direct) (extra : ℕ) (mark : Mark) (argument : Arguments)
     (Leads : Scope → (own : Term) → (front name : List ℕ) → Type 0)
     (Within : Scope → List Open → (front : List ℕ) → (e : Term) → (at : ℕ) → State → Type 0) : Type 0 where
@@ -128,8 +128,8 @@ IsEnclosingFrontRead s w mark from to argument =
     IsInnerFrontRead s w mark argument (opens.EnclosingFront mark from to argument) (λ scope. IsScopedWithin s scope from to argument)
     (λ scope waits. TypeWithin s (below s no_scope waits))
 
--- A function was read and written after a text, except for its qualifier. `Leads` holds of its name and that text, and `Within`
--- of the function and the place after it.
+-- A function was read and written after a text, except for its qualifier. `Leads` holds of the function's name and that text,
+-- and `Within` of the function and the place after it.
 pub record IsLedFunctionRead (s : Symbol) (w : Direct) (mark : Mark) (Leads : (own : Term) → (front : List ℕ) → Type 0)
     (Within : Scope → List Open → (front : List ℕ) → (e : Term) → (at : ℕ) → State → Type 0) : Type 0 where
   pub kept : Kept s w

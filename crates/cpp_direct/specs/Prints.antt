@@ -1,4 +1,4 @@
--- Trees with known text: they print it at the left and nothing at the right, wherever they are.
+-- Trees with known text: they print the text at the left and nothing at the right, wherever the trees are.
 use Rattle.std.specs.Prelude.{◌≡◌, ℕ, ◌+◌, ◌*◌, ◌≤◌, List, [], ◌∷◌, ◌++◌, length, Bool, true, false, cond, Option, None, Some, codes, ◌⊎◌}
 use Rattle.sym_print.specs.declared.detail.Detail.{Detail}
 use Rattle.sym_print.specs.Unfold.{PartOf}
@@ -24,13 +24,13 @@ written_of detail form context t = written detail (record { tree = t; form = for
 abbrev pub joined_to : Form → (own context : Context) → (t p : Term) → List (PartOf Item)
 joined_to form own context t p = as_item form own t ∷ says "::" ∷ as_item piece context p ∷ []
 
--- the bytes are `int` or `long`, or end in one of these words after a blank, as do the names of types whose integers omit the
--- type
+-- the bytes are `int` or `long`, or end in a blank and one of these words, like the names of the types whose integers omit
+-- the type
 abbrev pub EndsAsInteger : List ℕ → Type 0
 EndsAsInteger bytes =
     (front : List ℕ) × ((bytes ≡ codes "int") ⊎ (bytes ≡ front ++ codes " int") ⊎ (bytes ≡ codes "long") ⊎ (bytes ≡ front ++ codes " long"))
 
--- A tree with this text: a type, or the name of something. `reference` says whether it is a reference.
+-- A tree with this text: a type, or the name of something. `reference` says whether the tree is a reference.
 pub record Prints (detail : Detail) (t : Term) (bytes : List ℕ) (reference : Bool) : Type 0 where
   pub left_text : (context : Context) → text_of (written_of detail left context t) ≡ bytes
   pub right_text : (context : Context) → text_of (written_of detail right context t) ≡ []
@@ -65,7 +65,7 @@ pub record PrintsIn (detail : Detail) (context : Context) (extra : ℕ) (t : Ter
   pub void : is_void t ≡ true → bytes ≡ codes "void"
   pub some : 1 ≤ length bytes
 
--- A reference that prints this text on both sides of a name, as one to an array does.
+-- A reference that prints this text on both sides of a name, as a reference to an array does.
 pub record PrintsAround (detail : Detail) (t : Term) (bytes : List ℕ) : Type 0 where
   pub both_texts : (context : Context) → text_of (written_of detail left context t) ++ text_of (written_of detail right context t) ≡ bytes
   pub cost : (context : Context) → 2 + cost_of (written_of detail left context t) + cost_of (written_of detail right context t) ≤ 4 * length bytes
@@ -89,7 +89,7 @@ pub record Named : Type 0 where
   pub bytes : List ℕ
   pub reference : Bool
 
--- the arguments of a function's template, by their numbers: those that may be named
+-- the arguments of a function's template that may be named, by their numbers
 abbrev pub Names : Type 0
 Names = (number : ℕ) → Option Named
 
@@ -110,7 +110,7 @@ pub record PrintsGiven (detail : Detail) (names : Names) (t : Term) (bytes : Lis
   pub as_prefix : (context : Context) (p : Term) → component_parts context t p ≡ joined_to left context context t p
   pub opening : opening_text (last_piece t) ≡ codes "<"
 
--- a tree that has this text wherever parameters name the arguments in `names`, if it is dependent, and otherwise anywhere
+-- a tree that has this text anywhere or, if the tree is dependent, wherever parameters name the arguments in `names`
 abbrev pub PrintsAs : (detail : Detail) → Names → (is_dependent : Bool) → Term → (bytes : List ℕ) → (reference : Bool) → Type 0
 PrintsAs detail names false t bytes reference = Prints detail t bytes reference
 PrintsAs detail names true t bytes reference = PrintsGiven detail names t bytes reference
@@ -131,7 +131,8 @@ made_by patterns.Lvalue t = lvalue t
 made_by patterns.ConstLvalue t = lvalue (as_const t)
 made_by patterns.Rvalue t = rvalue t
 
--- The marks that a pattern has after the text of a type. An rvalue reference to a reference is that reference, and has none.
+-- The marks that a pattern has after the text of a type. An rvalue reference to a reference is that reference, and adds no
+-- mark.
 abbrev pub IsMarkedBy : Pattern → (reference : Bool) → (marks : List ℕ) → Type 0
 IsMarkedBy patterns.Same reference marks = marks ≡ []
 IsMarkedBy patterns.Lvalue reference marks = (reference ≡ false) × (marks ≡ codes "&")
@@ -247,11 +248,11 @@ pub record IsElementGiven (detail : Detail) (names : Names) (extra : ℕ) (t : T
   pub prints : (context : Context) → IsGiven detail names context → IsElementIn detail context extra t bytes
   pub packless : (arguments : Term) → AreSingle names arguments → pack_length arguments t ≡ None
 
--- an element that prints this text wherever parameters name the arguments in `names`, if it is dependent, and otherwise anywhere
+-- an element that prints this text anywhere or, if the element is dependent, wherever parameters name the arguments in `names`
 abbrev pub IsElementAs : (detail : Detail) → Names → (is_dependent : Bool) → (extra : ℕ) → Term → (bytes : List ℕ) → Type 0
 IsElementAs detail names false extra t bytes = IsElement detail extra t bytes
 IsElementAs detail names true extra t bytes = IsElementGiven detail names extra t bytes
 
--- the elements print this text wherever parameters name the arguments in `names`, if they are dependent, and otherwise anywhere
+-- the elements print this text anywhere or, if they are dependent, wherever parameters name the arguments in `names`
 abbrev pub PrintAllAs : (detail : Detail) → Names → (is_dependent : Bool) → (extra : ℕ) → List Term → (bytes : List ℕ) → Type 0
 PrintAllAs detail names is_dependent extra ts bytes = PrintAllBy (IsElementAs detail names is_dependent extra) ts bytes

@@ -20,7 +20,8 @@ use Rattle.cpp_direct.specs.Prints.{Named, Names, Prints, PrintsAs, PrintsListed
 
 -- ## Places
 
--- the place where the encoding of a symbol begins if no text precedes it: after _Z, or after _ZZ in that of a local entity
+-- the place where the encoding of a symbol begins if no text precedes it: after _Z, or after _ZZ in the symbol of a local
+-- entity
 abbrev pub encoding_place : List ℕ → ℕ
 encoding_place s = cond (is_local s) 3 2
 
@@ -42,7 +43,7 @@ IsPlaced text p bytes = IsBetween text p.from p.to bytes
 abbrev pub nowhere : Arguments
 nowhere = record { from = 0; ends = replicate MOST_KNOWN 0; references = replicate MOST_KNOWN false; count = 0; encoding = 0; has_pack = false; before = 0; elements = 0 }
 
--- where the text of the argument with this number begins: the first one at a place, and any other after the end of the one before
+-- where the text of the argument with this number begins: the first text begins at a place, and any other follows the text before
 -- it, a comma and a space
 abbrev pub begin_by : (from : ℕ) → (ends : List ℕ) → (number : ℕ) → ℕ
 begin_by from ends zero = from
@@ -56,11 +57,11 @@ place_of a number = record { from = begin_by a.from a.ends number; to = get_or a
 abbrev pub IsKnown : Arguments → (number : ℕ) → Type 0
 IsKnown a number = number < a.count
 
--- the argument with this number is known, and no element of the pack
+-- the argument with this number is known, and is no element of the pack
 abbrev pub IsSingle : Arguments → (number : ℕ) → Type 0
 IsSingle a number = IsKnown a number × (a.has_pack ≡ true → number < a.before)
 
--- the text of the argument with this number, or of the element of a pack, is at a place
+-- the text of a name's argument with this number, or of a pack's element with this number, is at a place
 pub record IsAmong (in_pack : Bool) (detail : Detail) (text : List ℕ) (p : Argument) (number : ℕ) (ts : List Term) : Type 0 where
   pub bytes : List ℕ
   pub placed : IsPlaced text p bytes
@@ -73,7 +74,7 @@ pub record IsPackOf (detail : Detail) (text : List ℕ) (a : Arguments) (ts : Li
   pub size : length ts ≡ a.elements
   pub among : (k : ℕ) → IsKnown a (a.before + k) → IsAmong true detail text (place_of a (a.before + k)) k ts
 
--- The argument of a name with this number is at a place.
+-- A name's argument with this number is at a place.
 pub record IsArgument (detail : Detail) (text : List ℕ) (p : Argument) (number : ℕ) (name : Term) : Type 0 where
   pub bytes : List ℕ
   pub placed : IsPlaced text p bytes
@@ -87,7 +88,7 @@ pub record IsArgument (detail : Detail) (text : List ℕ) (p : Argument) (number
 abbrev pub HasPack : (all : Term) → (number : ℕ) → List Term → Type 0
 HasPack all number ts = (element all number ≡ pack (list_of ts)) × (number < count all)
 
--- a name's arguments have a pack, which is known
+-- a name's arguments include a pack, which is known
 pub record OwnPack (detail : Detail) (text : List ℕ) (a : Arguments) (name : Term) : Type 0 where
   pub all : Term
   pub all_are : arguments_of name ≡ Some all
@@ -166,7 +167,7 @@ pub record Scope : Type 0 where
 abbrev pub no_scope : Scope
 no_scope = record { arguments = nowhere; names = λ number. None }
 
--- each argument that may be named has the text that the scope gives it at its place
+-- each argument that may be named has, at its place, the text that the scope gives it
 abbrev pub AreNamed : (text : List ℕ) → Scope → Type 0
 AreNamed text scope =
     (number : ℕ) → IsSingle scope.arguments number → (bytes : List ℕ)
@@ -179,9 +180,9 @@ HasSingles scope = (number : ℕ) (own : Named) → scope.names number ≡ Some 
 
 -- ## Candidates
 
--- the encoding is the one whose arguments may be named, and its beginning is known
-abbrev pub IsMadeIn : Scope → (encoding : ℕ) → Type 0
-IsMadeIn scope encoding = (encoding ≡ scope.arguments.encoding) × (scope.arguments.encoding ≢ 0)
+-- the encoding is the one whose arguments may be named, its beginning is known, and this is in none of its lambdas
+abbrev pub IsMadeIn : Scope → (encoding : ℕ) → (in_lambda : Bool) → Type 0
+IsMadeIn scope encoding in_lambda = (encoding ≡ scope.arguments.encoding) × (scope.arguments.encoding ≢ 0) × (in_lambda ≡ false)
 
 -- A candidate prints the text at its place. If it names arguments of the function's template, types may name these arguments.
 pub record IsCandidate (s : Symbol) (scope : Scope) (text : List ℕ) (k : Candidate) (c : values.Candidate) : Type 0 where
@@ -189,7 +190,7 @@ pub record IsCandidate (s : Symbol) (scope : Scope) (text : List ℕ) (k : Candi
   pub placed : IsBetween text k.from k.to bytes
   pub open placed use *
   pub prints : PrintsAs (detail_of s) scope.names k.is_dependent c.tree bytes k.is_reference
-  pub made_in : k.is_dependent ≡ true → IsMadeIn scope c.encoding
+  pub made_in : k.is_dependent ≡ true → IsMadeIn scope c.encoding c.in_lambda
 
 -- each candidate prints the text at its place, except for those that end before they begin: their texts are unknown
 abbrev pub AreCandidates : (s : Symbol) → Scope → (text : List ℕ) → List Candidate → List values.Candidate → Type 0

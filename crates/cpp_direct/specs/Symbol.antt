@@ -2,11 +2,9 @@
 use Rattle.std.specs.Prelude.{ℕ, List, Bool, true, false}
 use Rattle.sym_print.specs.declared.detail.Detail.{Detail}
 use Rattle.sym_print.specs.declared.detail.Detail.TheVariants.{Full, Brief, NoParameters, BriefNoParameters}
-use Rattle.sym_shape.specs.Table.{Table}
 use Rattle.sym_demangle.specs.Mangled.{Mangled}
-use Rattle.cpp_grammar.specs.Table.{abi, wide}
-use Rattle.cpp_grammar.specs.Mangled.{cpp_mangled, wide_mangled}
 use Rattle.cpp_grammar.specs.Term.{Term}
+pub use Rattle.cpp_short_reading.specs.Grammars.{mangled_by, table_by}
 
 -- the bytes of a symbol, whether the wide grammar reads it, whether only the names of functions are shown, and whether names
 -- are shown without their template arguments
@@ -36,15 +34,6 @@ symbol_as is_wide Brief bytes = symbol_by is_wide false true bytes
 symbol_as is_wide NoParameters bytes = symbol_by is_wide true false bytes
 symbol_as is_wide BriefNoParameters bytes = symbol_by is_wide true true bytes
 
--- the table of the wide grammar, or of the ABI's
-abbrev pub table_by : (is_wide : Bool) → Table
-table_by true = wide
-table_by false = abi
-
--- the promise about the symbols of the wide grammar, or of the ABI's
-abbrev pub mangled_by : (is_wide : Bool) → Mangled Term
-mangled_by true = wide_mangled
-mangled_by false = cpp_mangled
-
+-- the promise about the symbol
 abbrev pub mangled_of : Symbol → Mangled Term
 mangled_of s = mangled_by s.is_wide

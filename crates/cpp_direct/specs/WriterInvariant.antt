@@ -64,8 +64,8 @@ pub record EntityBehind (s : Symbol) (lead : List ℕ) (e : Term) (name : List �
   pub encoded : Encoded s made at
   pub shows : (bytes : List ℕ) → Encloses (detail_of s) e bytes → Shows (detail_of s) made (lead ++ (bytes ++ codes "::" ++ source_text name))
 
--- The name of an encoding that begins at a place was read, and items may follow. `becomes` says what the encoding becomes that
--- the name and the items make.
+-- The name of an encoding that begins at a place was read, and items may follow. `becomes` says what becomes of the encoding
+-- that is made of the name and the items.
 pub record ItemsOf (s : Symbol) (encoding : ℕ) (becomes : Term → (at : ℕ) → State → Type 0) (v : Value) (at : ℕ) (st : State) : Type 0 where
   pub around : Around
   pub inner : List Opened
@@ -76,16 +76,16 @@ pub record ItemsOf (s : Symbol) (encoding : ℕ) (becomes : Term → (at : ℕ) 
   pub awaits : Expects s Kind.Items around inner at st
   pub onward : (l : Value) (at : ℕ) (st : State) → Comes s inner l at st → becomes (encoding_of v (no_items l)) at st
 
--- Likewise for a member function of a local entity: what is read as the encoding has the encoding's text before the entity, and
--- the member function's name is expected next.
+-- Likewise for a member function of a local entity: `made`, which is read in place of the encoding, has the encoding's text
+-- before the entity, and the member function's name is expected next.
 pub record MemberBehind (s : Symbol) (lead : List ℕ) (e : Term) (at : ℕ) (st : State) : Type 0 where
   pub none : lead ≡ []
   pub made : Term
   pub encloses : (bytes : List ℕ) → Encloses (detail_of s) e bytes → Encloses (detail_of s) made bytes
   pub opens : MemberOpened s (λ v there now. ItemsOf s 2 (λ f end last. Encoded s f end) v there now) made at st
 
--- An encoding with this tree ends at the place, after a text. The symbol ends there, or the name of a local entity, or of its
--- member function, follows.
+-- An encoding with this tree ends at the place, after a text. The symbol ends there, or the name of a local entity or of its
+-- member function follows.
 pub record EncodedBehind (s : Symbol) (lead : List ℕ) (e : Term) (at : ℕ) (st : State) : Type 0 where
   pub whole : is_local s.bytes ≡ false → EndsBehind s lead e at
   pub entity : is_local s.bytes ≡ true → (internal : Bool) (name : List ℕ) (digit : Discriminator) (end : ℕ) → IsEntityAt s.bytes at internal name digit end
@@ -103,12 +103,12 @@ pub record TakesItems (s : Symbol) (lead : List ℕ) (v : Value) (at : ℕ) (st 
   pub awaits : Expects s Kind.Items around inner at st
   pub onward : (l : Value) (at : ℕ) (st : State) → Comes s inner l at st → EncodedBehind s lead (encoding_of v (no_items l)) at st
 
--- the name of an encoding was read after a text; items may follow, unless it is the name of the symbol's object
+-- the name of an encoding was read after a text; items may follow, unless the name is that of the symbol's object
 pub record AwaitsItems (s : Symbol) (lead : List ℕ) (v : Value) (at : ℕ) (st : State) : Type 0 where
   pub ends : EncodedBehind s lead (encoding_of v nil) at st
   pub items : is_object s.bytes ≡ false → TakesItems s lead v at st
 
--- This text is written of the whole symbol.
+-- This text is what is written of the whole symbol.
 pub record IsWhole (s : Symbol) (text : List ℕ) : Type 0 where
   pub whole : Term
   pub stands : StandsFor (mangled_of s) s.bytes (Ok whole)
@@ -127,13 +127,13 @@ pub record IsShown (s : Symbol) (most : ℕ) (text : List ℕ) : Type 0 where
 abbrev pub qualifiers : (is_const : Bool) → Qualifiers
 qualifiers is_const = record { restrict = false; volatile = false; const = is_const }
 
--- a name is read as this tree, and as that of a member function with these qualifiers
+-- a name is read as this tree, and as the name of a member function with these qualifiers
 pub record IsNamedSo (v : Value) (own : Term) (mark : Mark) : Type 0 where
   pub tree_is : tree_of v ≡ own
   pub qualifiers_are : qualifiers_of v ≡ qualifiers (has_const mark)
   pub mark_is : ref_of v ≡ called_on mark
 
--- A name was written from a place on, and is read as that of a function with this mark, or of data.
+-- A name was written from a place on, and is read as the name of a function with this mark, or of data.
 pub record HasNameSo (s : Symbol) (text : List ℕ) (mark : Mark) (from : ℕ) : Type 0 where
   pub own : Term
   pub v : Value
@@ -162,7 +162,7 @@ pub record IsNest (detail : Detail) (names : Names) (front bytes text : List ℕ
 
 -- ## Lists
 
--- a list of these elements, and then of those in `rest`
+-- a list of these elements, followed by those in `rest`
 abbrev pub list_with : List Term → Term → Term
 list_with [] rest = rest
 list_with (t ∷ ts) rest = list t (list_with ts rest)
@@ -171,12 +171,13 @@ list_with (t ∷ ts) rest = list t (list_with ts rest)
 abbrev pub IsTail : Term → Type 0
 IsTail rest = (rest ≡ nil) ⊎ (rest ≡ list (pack nil) nil)
 
--- the text of the elements so far, and a comma and a space after it if there are any
+-- the text of the elements so far, and a comma and a space after it if there are any elements
 abbrev pub in_front_of_next : List Term → List ℕ → List ℕ
 in_front_of_next [] l = l
 in_front_of_next (t ∷ ts) l = l ++ codes ", "
 
--- Parameters continue after these, and may name arguments. `becomes` says what the encoding becomes that all of them make.
+-- Parameters continue after these, and may name arguments. `becomes` says what becomes of the encoding that is made of
+-- all parameters.
 pub record ItemsGoOn (s : Symbol) (argument : Arguments) (becomes : Term → (at : ℕ) → State → Type 0) (make : Term → Term) (ts : List Term) (at : ℕ) (st : State) : Type 0 where
   pub around : Around
   pub inner : List Opened
@@ -189,7 +190,7 @@ pub record ItemsGoOn (s : Symbol) (argument : Arguments) (becomes : Term → (at
 abbrev pub ParametersGoOn : (s : Symbol) → (argument : Arguments) → (lead : List ℕ) → (make : Term → Term) → (ts : List Term) → (at : ℕ) → State → Type 0
 ParametersGoOn s argument lead make ts at st = ItemsGoOn s argument (λ e here now. EncodedBehind s lead e here now) make ts at st
 
--- a function of this name and these items, without a return type
+-- a function with this name and these items, without a return type
 abbrev pub plain_encoding : (mark : Mark) → (own : Term) → (items : Term) → Term
 plain_encoding mark own items = function own (qualifiers (has_const mark)) (called_on mark) absent (parameters items)
 
@@ -248,12 +249,13 @@ pub record HasLed (detail : Detail) (extra : ℕ) (mark : Mark) (Leads : (own : 
 abbrev pub IsEnclosing : (from to : ℕ) → (own : Term) → (front name : List ℕ) → Type 0
 IsEnclosing from to own front name = (from ≡ length front) × (to ≡ length (front ++ name))
 
--- The name of a member function of a local entity is the first that is written, up to a place. The name has no return type.
+-- The name of a member function of a local entity is the first text that is written, and ends at this place. The name has
+-- no return type.
 abbrev pub IsMember : (to : ℕ) → (own : Term) → (front name : List ℕ) → Type 0
 IsMember to own front name = (front ≡ []) × (to ≡ length (front ++ name)) × (has_return_type own ≡ false)
 
 -- The name of a function whose address is an argument is written up to a place. The known arguments that the name ends in are at
--- their places before that, and are those that types may name. The function is in no object's name.
+-- their places before that end, and are those that types may name. The function is in no object's name.
 pub record IsAddressed (s : Symbol) (scope : Scope) (to : ℕ) (argument : Arguments) (own : Term) (front name : List ℕ) : Type 0 where
   pub to_is : to ≡ length (front ++ name)
   pub given : IsGiven (detail_of s) scope.names (types_of own)
@@ -294,8 +296,8 @@ pub record HasInstance (s : Symbol) (scope : Scope) (text : List ℕ) (mark : Ma
 
 -- ## What is open
 
--- What is open below an entry: what waits for a value after a text; what types may name there; and that they may name the scope's
--- arguments.
+-- What is open below an entry: what waits for a value after a text; what types may name there; and the fact that types may
+-- name the scope's arguments.
 pub record Below : Type 1 where
   pub waits : List Opened → (text : List ℕ) → Type 0
   pub scoped : Around → Type 0
@@ -323,7 +325,7 @@ AddressWithin s below front e at st =
     (outer : List Opened) × (before : List ℕ) × (front ≡ before ++ codes "&")
     × (StandsAt s.bytes at (69 ∷ 69 ∷ []) → Comes s outer (tree (address_of e) true) (at + 2) st) × below.waits outer before
 
--- What an accepted nested name becomes, by the purpose for which it is read, and what types in it may name.
+-- What an accepted nested name becomes, by the purpose for which it is read, and what types in the name may name.
 abbrev pub Serves : (s : Symbol) → Purpose → Below → List Opened → (front : List ℕ) → Type 0
 Serves s purposes.Type below os front =
     (outer : List Opened) × (around : Around)
@@ -341,8 +343,8 @@ Serves s (purposes.Address mark) below os front =
     → Comes s outer (named t (qualifiers (has_const mark)) (called_on mark)) at st)
     × below.waits outer front
 
--- The nested name of a member function with these qualifiers, in an encoding, is read as far as a tree; the whole names the
--- symbol's encoding.
+-- The nested name of a member function with these qualifiers, in an encoding, is read as far as a tree; the whole nested
+-- name names the symbol's encoding.
 pub record MemberGoesOn (s : Symbol) (mark : Mark) (e t : Term) (at : ℕ) (st : State) : Type 0 where
   pub outer : List Opened
   pub around : Around
@@ -350,7 +352,7 @@ pub record MemberGoesOn (s : Symbol) (mark : Mark) (e t : Term) (at : ℕ) (st :
   pub ends : (u : Term) (listed : Bool) (at : ℕ) (st : State) → Comes s outer (tree u listed) at st
       → ItemsOf s 2 (λ f end last. Encoded s f end) (member_in e u (qualifiers (has_const mark)) (called_on mark)) at st
 
--- What a lambda becomes that was read after a tree: a type in a function, before its discriminator; a component of a nested name;
+-- What a lambda that was read after a tree becomes: a type in a function, before its discriminator; a component of a nested name;
 -- or an entity with a member function.
 abbrev pub LambdaComes : (s : Symbol) → Holder → Below → (front : List ℕ) → (e : Term) → (lambda : Term) → (at : ℕ) → State → Type 0
 LambdaComes s holders.Function below front e p at st =
@@ -367,7 +369,7 @@ LambdaComes s (holders.Member mark) below front e p at st = (front ≡ []) × Me
 abbrev pub LambdaWithin : (s : Symbol) → Holder → Below → (front : List ℕ) → (e : Term) → (items : Term) → (at : ℕ) → State → Type 0
 LambdaWithin s holder below front e items at st = LambdaEnds s (LambdaComes s holder below front e) items at st
 
--- What an instance becomes that was read after this text, by the entry that was open for its arguments.
+-- What an instance that was read after this text becomes, by the entry that was open for its arguments.
 abbrev pub Owns : (s : Symbol) → Open → Below → (front : List ℕ) → Term → (at : ℕ) → State → Type 0
 Owns s (opens.TypeArguments from is_dependent) below front u at st =
     (outer : List Opened) × (around : Around) × Comes s outer (tree u true) at (with_candidate around u st)
@@ -399,7 +401,7 @@ pub data Listing : Type 0 where
   of_template : Listing
   of_pack : (before : List Term) → (written : List ℕ) → Listing
 
--- the kind as which the rest of the list is expected
+-- the kind of the rest of the list
 abbrev pub element_kind : Listing → Kind
 element_kind of_template = Kind.ArgumentList
 element_kind (of_pack before written) = Kind.PackList
@@ -438,7 +440,8 @@ abbrev pub GoesOn : (s : Symbol) → Listing → Open → Below → (front : Lis
 GoesOn s listing owner below front template ts at st =
     ElementsGoOn s (element_kind listing) (scoped_in owner below) (λ l now then. Closes s listing owner below front template l now then) ts at st
 
--- each known argument is at its place, and is one of these: arguments, or some arguments and then elements of a pack
+-- each known argument is at its place, and is among the arguments, or among some arguments and the elements of a pack
+-- after them
 abbrev pub AreAmong : (is_pack : Bool) → (detail : Detail) (text : List ℕ) → Arguments → List Term → Type 0
 AreAmong is_pack detail text a ts =
     ((number : ℕ) → IsKnown a number → (is_pack ≡ true → number < a.before) → IsAmong false detail text (place_of a number) number ts)
@@ -469,7 +472,7 @@ abbrev pub arguments_or_pack : (is_pack : Bool) → (before : List Term) → (wr
 arguments_or_pack false before written = of_template
 arguments_or_pack true before written = of_pack before written
 
--- these arguments precede the pack if a pack is read, and otherwise there are none; no pack is known so far
+-- these arguments precede the pack if a pack is read, and are none otherwise; no pack is known so far
 pub record ComeBefore (detail : Detail) (is_pack : Bool) (known : Arguments) (before : List Term) (written : List ℕ) : Type 0 where
   pub none : is_pack ≡ false → before ≡ []
   pub prints : PrintAll detail 3 before written
@@ -488,7 +491,7 @@ AwaitsArgument s names is_pack from number known owner below os text =
     × ((t : Term) (at : ℕ) (st : State) → Comes s os (tree t true) at st
     → GoesOn s (arguments_or_pack is_pack before written) owner below front template (ts ++ t ∷ []) at st)
 
--- a list continues after an enumerator of this type, once its number and an E are read
+-- a list continues after an enumerator of this type, once the enumerator's number and an E are read
 abbrev pub EnumeratorGoesOn : (s : Symbol) → Listing → Open → Below → (front : List ℕ) → (template : Term) → List Term → Term → (at : ℕ) → State → Type 0
 EnumeratorGoesOn s listing owner below front template ts t at st =
     (negative : Bool) (digits : List ℕ) (end : ℕ) → StandsAt s.bytes at (minus_sign negative)
@@ -517,7 +520,7 @@ abbrev pub Belongs : (detail : Detail) → Names → Listing → (opened : List 
 Belongs detail names of_template opened owner rest = opened ≡ owner ∷ rest
 Belongs detail names (of_pack before written) opened owner rest = (opened ≡ opens.Pack ∷ owner ∷ rest) × PrintAllAs detail names (is_noted owner) 3 before written
 
--- a list is open, and so is what it belongs to
+-- a list is open, and so is what the list belongs to
 pub record IsListing (detail : Detail) (names : Names) (opened : List Open) (text : List ℕ) : Type 0 where
   pub listing : Listing
   pub owner : Open
@@ -554,12 +557,12 @@ TakesFunction (opens.Enclosing mark from to ∷ rest) = Unit {0}
 TakesFunction (opens.EnclosingInstance mark from to argument ∷ rest) = Unit {0}
 TakesFunction _ = ⊥
 
--- what is open below an entry, where `waits` says what these entries accept
+-- the entries that are open below an entry; `waits` says what they accept
 abbrev pub outside : Scope → List Open → (waits : List Opened → List ℕ → Type 0) → Below
 outside scope rest waits = record { waits = waits; scoped = λ around. IsScoped scope around rest; naming = IsNaming scope rest }
 
--- The open entries accept a function type or an array after a text; `made_in` is where it is made, and `outer` what is open for
--- it.
+-- The open entries accept a function type or an array after a text; `made_in` is where that type is made, and `outer` is what
+-- is open for the type.
 pub record IsTaken (below : Below) (rest : List Open) (front : List ℕ) : Type 0 where
   pub outer : List Opened
   pub made_in : Around
@@ -573,7 +576,7 @@ pub record FirstType (s : Symbol) : Type 0 where
   pub is_reference : Bool
   pub prints : Prints (detail_of s) own bytes is_reference
 
--- The derived class of a construction table is written up to a place, and after it the words that say what the table is.
+-- The derived class of a construction table is written up to a place, followed by the words that say what the table is.
 pub record HasDerived (s : Symbol) (text : List ℕ) (to : ℕ) : Type 0 where
   pub derived : Term
   pub bytes : List ℕ
@@ -595,8 +598,8 @@ AwaitsFront s mark argument Leads Within os text =
     (a : HasInnerFront s text mark Leads)
     × ((t : Term) (at : ℕ) (st : State) → Comes s os (tree t true) at st → ItemsGoOn s argument (Within a.lead) (λ l. encoding_of a.v l) (t ∷ []) at st)
 
--- The innermost entry accepts a type, after what is written, or the name of a function whose address is read. While types of a
--- function are read that may name its own arguments, the entries around it name nothing.
+-- The innermost entry accepts a type, or the name of a function whose address is read, after what is written. While types that
+-- may name a function's own arguments are read, the entries around the function name nothing.
 abbrev pub Stands : (s : Symbol) → Scope → List Open → List Opened → (text : List ℕ) → Type 0
 Stands s scope [] os text = ⊥
 Stands s scope (opens.Pointer from ∷ rest) os text = Marks s (outside scope rest (Stands s scope rest)) os text from pointer

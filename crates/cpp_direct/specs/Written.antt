@@ -19,7 +19,7 @@ pub record Writes (old new : Direct) (bytes : List ℕ) : Type 0 where
   pub scope : new.has_scope ≡ old.has_scope
   pub at : new.at ≡ old.at
 
--- likewise, and the place is another one
+-- likewise, except that the place may change
 pub record Reads (old new : Direct) (bytes : List ℕ) : Type 0 where
   pub text : new.text.list.items ≡ old.text.list.items ++ bytes
   pub candidates : new.candidates ≡ old.candidates
@@ -97,8 +97,8 @@ hidden_behind false ks = ks ++ hidden ∷ []
 abbrev pub with_hidden : Direct → (is_pointer : Bool) → List Candidate
 with_hidden w is_pointer = hidden_behind is_pointer w.candidates.list.items
 
--- What was written up to a place was removed. If anything was, no candidates remain; in the symbol of a local entity they remain,
--- but each is nowhere.
+-- What was written up to a place was removed. If anything was, no candidates remain, except in the symbol of a local entity,
+-- where each becomes nowhere.
 pub record Cuts (s : List ℕ) (old new : Direct) (start : ℕ) : Type 0 where
   pub text : new.text.list.items ≡ drop start old.text.list.items
   pub candidates : ((start ≡ 0) × (new.candidates ≡ old.candidates)) ⊎ ((is_local s ≡ false) × (new.candidates.list.items ≡ []))
@@ -106,8 +106,8 @@ pub record Cuts (s : List ℕ) (old new : Direct) (start : ℕ) : Type 0 where
   pub scope : new.has_scope ≡ old.has_scope
   pub at : new.at ≡ old.at
 
--- What was written after a place was removed. No candidates remain; in the symbol of a local entity they remain, but each is
--- nowhere.
+-- What was written after a place was removed. No candidates remain, except in the symbol of a local entity, where each
+-- becomes nowhere.
 pub record Leaves (s : List ℕ) (old new : Direct) (end : ℕ) : Type 0 where
   pub text : new.text.list.items ≡ take end old.text.list.items
   pub candidates : ((is_local s ≡ false) × (new.candidates.list.items ≡ [])) ⊎ AreLeft hidings.All old.candidates.list.items new.candidates.list.items

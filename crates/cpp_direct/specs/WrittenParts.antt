@@ -12,7 +12,7 @@ use Rattle.cpp_grammar.specs.Items.{Form, left, low, first, Context, Item}
 use Rattle.cpp_grammar.specs.Parts.{as_item, list_part, instance_parts, parts_in, not_empty}
 use Rattle.cpp_grammar.specs.Ranks.{rank}
 
--- what is written before template arguments, and after them: brackets, or marks where they aren't shown
+-- what is written before template arguments, and after them: brackets, or marks where the arguments aren't shown
 abbrev pub opening_byte : (shown : Bool) → ℕ
 opening_byte true = 60
 opening_byte false = opens
@@ -27,7 +27,7 @@ opening_bracket d = opening_byte (has_arguments d) ∷ []
 abbrev pub closing_bracket : Detail → List ℕ
 closing_bracket d = closing_byte (has_arguments d) ∷ []
 
--- a byte as a text has it: if arguments aren't shown, 0 instead of a mark
+-- a byte of a text, with 0 instead of a mark if arguments aren't shown
 abbrev pub unmarked_byte : (shown : Bool) → ℕ → ℕ
 unmarked_byte shown byte = elim (is_mark byte) [ true ↦ elim shown [ true ↦ byte | false ↦ 0 ] | false ↦ byte ]
 

@@ -31,8 +31,8 @@ fn is_address_at(s: &[u8], at: usize) -> bool
 }
 
 impl Direct {
-    /// Reads an argument of a name up to the first type in it, with the entry that accepts a type
-    /// open already. In the wide grammar the argument may be the address of a function.
+    /// Reads an argument of a name up to the first type in it, once the entry that accepts a type
+    /// is open. In the wide grammar the argument may be the address of a function.
     // <template-arg> ::= <type> | X <expression> E
     #[inline(always)]
     pub(crate) fn argument_at<G: Grammar>(&mut self, s: &[u8]) -> Option<Step>

@@ -38,7 +38,7 @@ fn array_opening(access: Access) -> &'static [u8]
     }
 }
 
-/// Whether the array is behind a pointer or a reference.
+/// Whether the array is accessed by a pointer or a reference.
 fn is_marked(access: Access) -> bool
     ensures { result ≡ is_marked access }
 {
@@ -49,7 +49,7 @@ fn is_marked(access: Access) -> bool
     }
 }
 
-/// Whether the array is behind a reference.
+/// Whether the array is accessed by a reference.
 fn is_lvalue(access: Access) -> bool
     ensures { result ≡ is_lvalue access }
 {

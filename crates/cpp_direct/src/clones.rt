@@ -1,4 +1,4 @@
-// Clones of functions, for transactions and for what is done outside of them. Only the wide grammar has them.
+// Clones of functions, for transactions and for code outside of transactions. Only the wide grammar has them.
 
 ghost use Rattle.std.specs.Prelude.{◌≡◌, ◌⊎◌, ◌∷◌, [], false};
 ghost use Rattle.std.specs.Option.{IfSome};

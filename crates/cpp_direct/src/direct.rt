@@ -12,20 +12,21 @@ use crate::symbols::{NO_NEST, NOWHERE};
 use std::alloc::Global;
 use sym_direct::Bounded;
 
-/// The lists with which one text after another is written.
+/// The lists that are used to write one text after another.
 #[derive(Drop)]
 pub struct Direct {
     pub(crate) text: Bounded<u8>,
     pub(crate) candidates: Bounded<Candidate>,
     pub(crate) waiting: Bounded<Open>,
     pub(crate) nest: Nest,
-    /// the known arguments of the name that was read last: its first ones, as far as they are
-    /// literals, or types other than function types and arrays; after these the elements of a pack,
-    /// as far as they are types other than function types and arrays, or references to arrays
+    /// the known arguments of the name that was read last. The first arguments are known, as far as
+    /// each is a literal, or a type other than a function type or an array. Then the elements of a
+    /// pack are known, as far as each is a reference to an array, or a type other than a function
+    /// type or an array.
     pub(crate) argument: Arguments,
-    /// whether the arguments that types may name are known: those of the symbol's own name, or
-    /// those of a function whose address is an argument, while that function's types are read; it
-    /// is also true if no types follow the symbol's own name
+    /// whether the arguments that types may name are known; also true if no types follow the
+    /// symbol's own name. Types may name the arguments of the symbol's own name; the types of a
+    /// function whose address is an argument may name that function's arguments instead.
     pub(crate) has_scope: bool,
     pub(crate) at: usize,
 }
@@ -65,9 +66,9 @@ impl Direct {
         Some(())
     }
 
-    /// Clears the lists and reserves their room for a symbol: `bytes` for the text, at most 32 for
-    /// each byte of the symbol and a kilobyte, and in each other list an entry for each byte of the
-    /// symbol.
+    /// Clears the lists and reserves room for a symbol: `bytes` for the text (at most 32 for each
+    /// byte of the symbol, and a kilobyte), and an entry for each byte of the symbol in each other
+    /// list.
     #[inline(always)]
     pub fn restart(&mut self, s: &[u8], bytes: u32)
         requires fits { FitsSymbol s.now }

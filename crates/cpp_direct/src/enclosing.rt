@@ -21,8 +21,9 @@ use crate::marks::mark_at;
 use crate::open::{Arguments, Mark, Open, Purpose, Step};
 use crate::tokens::byte_at;
 
-/// The longest symbol, in bytes, that is scanned once more at a lambda with parameters, or that has
-/// its candidates visited at parameters that aren't shown or at the address of a function.
+/// The longest symbol, in bytes, that is scanned once more or has its candidates visited. A lambda
+/// with parameters causes the scan; parameters that aren't shown and the address of a function
+/// cause the visits.
 pub(crate) const LONGEST_GONE_OVER: usize = 1_024;
 
 /// The place after the builtin type at a place.
@@ -63,7 +64,7 @@ impl Direct {
             return self.enclosing_named::<G>(s, Mark::Plain, from);
         }
         let encoding = self.at;
-        // no place in a symbol that goes the short way is greater
+        // no place is greater in a symbol that is read the short way
         if encoding > u16::MAX as usize {
             return None;
         }
@@ -76,7 +77,8 @@ impl Direct {
         self.nest_at::<G>(s, purpose)
     }
 
-    /// The name of a function that contains a type is read: its parameters follow, or the type.
+    /// The name of a function that contains a type is read: the function's parameters or the type
+    /// follow.
     // <encoding> ::= <function name> <bare-function-type> | <data name>
     pub(crate) fn enclosing_named<G: Grammar>(
         &mut self,
@@ -95,9 +97,9 @@ impl Direct {
     }
 
     /// The name of an instance of a function template that contains a type is read. The instance's
-    /// return type follows, and is not written. The types of its parameters may name its own
-    /// arguments, unless the symbol is long or the instance is among the types of another function:
-    /// candidates are visited where the instance ends.
+    /// return type follows, and is not written. The types of the instance's parameters may name the
+    /// instance's own arguments, unless the symbol is long or the instance is among the types of
+    /// another function: candidates are visited where the instance ends.
     // <bare-function-type> ::= <return type> <parameter type>+
     pub(crate) fn enclosing_instance<G: Grammar>(
         &mut self,
@@ -248,7 +250,8 @@ impl Direct {
 
     /// Reads the parameters of a function that contains a type, up to the first type in them. If
     /// only the names of functions are shown, a symbol in which the function has parameters has to
-    /// be short: at their end their text is removed, and so are the texts of candidates in it.
+    /// be short: where the parameters end, their text is removed, and so are the texts of
+    /// candidates in it.
     // <bare-function-type> ::= <parameter type>+ | v
     fn enclosing_parameters<G: Grammar>(&mut self, s: &[u8], mark: Mark, from: u32) -> Option<Step>
         requires fits { IsReadable s.now }
@@ -297,7 +300,8 @@ impl Direct {
         }
         let _open = self.waiting.pop();
         if G::IS_BARE {
-            // nothing is removed while types may name arguments: their texts stay where they are
+            // nothing is removed while types may name arguments: the arguments' texts stay where
+            // they are
             if self.has_scope {
                 return None;
             }

@@ -54,7 +54,7 @@ impl Direct {
         Some(Step::Type)
     }
 
-    /// The return type of a function type is read: its parameters follow.
+    /// The return type of a function type is read: the parameters follow.
     // <bare-function-type> ::= <return type> <parameter type>+
     pub(crate) fn returned<G: Grammar>(&mut self, s: &[u8], is_pointer: bool) -> Option<Step>
         requires fits { IsReadable s.now }

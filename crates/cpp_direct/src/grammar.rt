@@ -21,8 +21,8 @@ pub trait Grammar {
     ghost IS_BRIEF: { Bool };
 }
 
-/// A grammar, the wide one or that of the ABI's symbols, and how much is shown: functions by their
-/// names only or whole, and names without their template arguments or with them.
+/// A grammar, the wide one or the ABI's, and how much is shown: functions by their names only or
+/// whole, and names without their template arguments or with them.
 pub struct Shown<const WIDE: bool, const BARE: bool, const BRIEF: bool>;
 
 impl<const WIDE: bool, const BARE: bool, const BRIEF: bool> Grammar for Shown<WIDE, BARE, BRIEF> {

@@ -1,4 +1,4 @@
-// Guard variables of objects that have nested names, as static members have.
+// Guard variables of objects that have nested names, such as static members.
 
 ghost use Rattle.std.specs.Prelude.{◌≡◌, ◌∷◌, [], true, false};
 ghost use Rattle.std.specs.Option.{IfSome};
@@ -15,7 +15,8 @@ use crate::open::Step;
 use crate::tokens::byte_at;
 
 impl Direct {
-    /// The first bytes of the symbol of an object's guard variable. No types follow the name.
+    /// Reads the first bytes of the symbol of an object's guard variable. No types follow the
+    /// object's name.
     // <special-name> ::= GV <object name>
     #[inline(never)]
     pub(crate) fn begin_object<G: Grammar>(&mut self, s: &[u8]) -> Option<Step>

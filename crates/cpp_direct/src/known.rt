@@ -45,7 +45,7 @@ impl Arguments {
         })
     }
 
-    /// The argument with this number, if it is known and no element of the pack.
+    /// The argument with this number, if it is known and is no element of the pack.
     pub(crate) fn single(&self, number: u8) -> Option<Argument>
         ensures known { IfSome result (λ p. IsSingle self.now number) }
         ensures is { IfSome result (λ p. p ≡ place_of self.now number) }
@@ -56,8 +56,8 @@ impl Arguments {
         self.at(number)
     }
 
-    /// The known arguments, with one more that has this number if those before it are known. Its
-    /// text is between two places.
+    /// The known arguments, with one more if those before it are known. The new argument has this
+    /// number, and its text is between two places.
     fn with(self, number: u8, from: u32, to: u32, is_reference: bool) -> Arguments
         ensures more { KnowsMore self result number from to is_reference }
         ensures rest { (result.before ≡ self.before) × (result.has_pack ≡ self.has_pack) }
@@ -83,7 +83,7 @@ impl Arguments {
     }
 }
 
-/// Whether a function type or an array is at a place, or a pointer or reference to one: these occur only as elements.
+/// Whether a function type or an array, or a pointer or reference to one, is at a place: such types occur only as elements.
 fn is_element_at(s: &[u8], at: usize) -> bool {
     match byte_at(s, at) {
         b'F' | b'A' => true,
@@ -143,7 +143,7 @@ impl Direct {
     }
 
     /// The first element of a list is a literal. If the list has the arguments of a name, later
-    /// ones become known, too.
+    /// arguments become known, too.
     // <template-args> ::= I <template-arg>* E
     #[inline(never)]
     pub(crate) fn first_literal<G: Grammar>(&mut self, s: &[u8]) -> Option<Step>
@@ -197,7 +197,7 @@ impl Direct {
         Some(Step::Type)
     }
 
-    /// An argument of a name is read, or an element of a pack among the arguments, after n others:
+    /// An argument of a name, or an element of a pack among the arguments, is read after n others:
     /// the place of its text becomes known.
     #[inline(always)]
     fn note_argument<G: Grammar>(
@@ -356,7 +356,8 @@ impl Direct {
         Some(self.note_argument::<G>(s, false, from, number, known, false))
     }
 
-    /// The first argument of a name is an enumerator: reads it up to the first type in its type.
+    /// The first argument of a name is an enumerator: reads the enumerator up to the first type in
+    /// the enumerator's type.
     // <expr-primary> ::= L <type> <value number> E
     #[inline(never)]
     fn first_enumerator<G: Grammar>(&mut self, s: &[u8]) -> Option<Step>
@@ -377,7 +378,7 @@ impl Direct {
         self.named_type::<G>(s)
     }
 
-    /// An enumerator comes next, after n + 1 arguments of a name: reads it up to the first type in its type.
+    /// An enumerator comes next, after n + 1 arguments of a name: reads the enumerator up to the first type in the enumerator's type.
     // <expr-primary> ::= L <type> <value number> E
     #[inline(never)]
     fn next_enumerator<G: Grammar>(&mut self, s: &[u8], last: u8, known: Arguments) -> Option<Step>
@@ -399,7 +400,8 @@ impl Direct {
         self.named_type::<G>(s)
     }
 
-    /// Reads the number of an enumerator that is an argument of a name, after its type.
+    /// Reads the number of an enumerator that is an argument of a name, after the enumerator's
+    /// type.
     // <expr-primary> ::= L <type> <value number> E
     #[inline(never)]
     pub(crate) fn argument_enumerator<G: Grammar>(

@@ -86,7 +86,7 @@ impl Direct {
         Some(Step::Type)
     }
 
-    /// Opens the parameters of a lambda, in a symbol that isn't a long one: each lambda scans the symbol once more.
+    /// Opens the parameters of a lambda, in a symbol that isn't long, since each lambda scans the symbol once more.
     // <closure-type-name> ::= Ul <lambda-sig> E [<nonnegative number>] _
     pub(crate) fn open_lambda(&mut self, s: &[u8], from: u32, holder: Holder) -> Option<()>
         requires { StandsAt s.now self.old.at (85 ∷ []) }
@@ -96,7 +96,8 @@ impl Direct {
         if byte_at(s, self.at) != b'l' {
             return None;
         }
-        // the lambda's number is tested before its parameters, and isn't known yet
+        // the lambda's number comes after the parameters, so all numbers of the symbol are tested
+        // here
         if s.len() > LONGEST_GONE_OVER || !are_numbers_short(s) {
             return None;
         }
@@ -121,7 +122,7 @@ impl Direct {
             self.push_pair(b',', b' ')?;
             return Some(Step::Type);
         }
-        // a lone void is no parameter
+        // a lone void isn't a parameter
         if self.text.as_slice().ends_with(b"(void") {
             return None;
         }
@@ -132,9 +133,9 @@ impl Direct {
         self.lambda_ended::<G>(s, from, holder)
     }
 
-    /// A lambda is read. One in a function is a type. A nested name continues after a lambda in it,
-    /// but a constructor that is named after a lambda is given up. After a lambda that has a member
-    /// function comes the function's name.
+    /// A lambda is read. A lambda in a function is a type. A nested name continues after a lambda
+    /// in it, but a constructor that is named after a lambda is given up. If the lambda has a
+    /// member function, the function's name comes next.
     // <local-name> ::= Z <function encoding> E <entity name> [<discriminator>]
     // <prefix> ::= <prefix> <unqualified-name>
     fn lambda_ended<G: Grammar>(&mut self, s: &[u8], from: u32, holder: Holder) -> Option<Step>

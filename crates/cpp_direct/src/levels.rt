@@ -15,7 +15,7 @@ use crate::tokens::byte_at;
 
 impl Direct {
     /// Reads the name of a template that has a member as an argument, up to the first of the
-    /// template's own arguments. Only the wide grammar has it.
+    /// template's own arguments. Only the wide grammar has such arguments.
     // <template-arg> ::= X <expression> E
     // <unresolved-name> ::= sr <unresolved-qualifier-level>+ E <base-unresolved-name>
     // <unresolved-qualifier-level> ::= <source-name> <template-args>
@@ -45,7 +45,7 @@ impl Direct {
         })
     }
 
-    /// The arguments of a template that has a member are read: reads the member's name.
+    /// Reads the name of a template's member, once the template's arguments are read.
     // <base-unresolved-name> ::= <source-name>
     #[inline(never)]
     pub(crate) fn level_ended<G: Grammar>(&mut self, s: &[u8], is_dependent: bool) -> Option<Step>

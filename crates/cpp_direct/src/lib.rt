@@ -1,9 +1,9 @@
 //! The text of a C++ symbol, written while its bytes are read.
 //!
-//! Symbols of common parts are read this way, by either grammar: functions and variables, classes, template arguments and
-//! types. What is left to the general way is listed in docs/ARCHITECTURE.md ("The short ways"). A symbol with any of that is
-//! given up, and is read by its grammar: no answer depends on this crate. Step by step it writes a text, and `itanium`
-//! (`short_way`) takes the steps, within the bounds that it sets.
+//! Symbols of common parts are read this way, by either grammar: functions and variables, classes, template arguments and types. What is
+//! left to the general way is listed in docs/ARCHITECTURE.md ("The short ways"). A symbol with any of that is given up, and is read by its
+//! grammar: no answer depends on this crate. The crate writes a text step by step; `itanium` (`short_way`) takes the steps, within the
+//! bounds that `itanium` sets.
 #![tactic(auto)]
 
 mod addresses;

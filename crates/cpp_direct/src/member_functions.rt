@@ -1,4 +1,4 @@
-// Functions that are members of local entities, as those of lambdas in functions are.
+// Functions that are members of local entities, such as those of lambdas in functions.
 
 ghost use Rattle.std.specs.Prelude.{◌∷◌, [], ℕ, List, false};
 ghost use Rattle.std.specs.Option.{IfSome, OnSome};
@@ -20,8 +20,8 @@ use crate::open::{Holder, Mark, Open, Step};
 use crate::tokens::{byte_at, may_end};
 
 impl Direct {
-    /// Reads the first bytes of the name of a function that is a member of a local entity, after the function that contains the
-    /// entity, in a symbol that isn't a long one: candidates are visited.
+    /// Reads the first bytes of the name of a member function, after the function that contains the local entity. A long symbol is given
+    /// up, since candidates are visited.
     // <local-name> ::= Z <function encoding> E <entity name>
     // <nested-name> ::= N [<CV-qualifiers>] [<ref-qualifier>] <prefix> <unqualified-name> E
     #[inline(never)]
@@ -139,7 +139,8 @@ impl Direct {
         }
         let _open = self.waiting.pop();
         if G::IS_BARE {
-            // nothing is removed while types may name arguments: their texts stay where they are
+            // nothing is removed while types may name arguments: the arguments' texts stay where
+            // they are
             if self.has_scope {
                 return None;
             }
@@ -150,7 +151,7 @@ impl Direct {
         self.member_ended::<G>(s, mark)
     }
 
-    /// Writes the qualifiers of a member function: the symbol ends.
+    /// Writes the qualifiers of a member function, after which the symbol ends.
     fn member_ended<G: Grammar>(&mut self, s: &[u8], mark: Mark) -> Option<Step>
         requires { IsMemberRead (symbol_by G.IS_WIDE G.IS_BARE G.IS_BRIEF s.now) self.old mark }
         ensures { IfSome result (IsWriting (symbol_by G.IS_WIDE G.IS_BARE G.IS_BRIEF s.now) self.new) }

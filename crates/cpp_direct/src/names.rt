@@ -1,4 +1,4 @@
-// Names: where they are.
+// Where names are in a symbol.
 
 ghost use Rattle.std.specs.Prelude.{◌≡◌, ◌+◌, ◌<◌, ◌≤◌, ℕ, get_or, length, true, false};
 ghost use Rattle.std.specs.Option.{IfSome};
@@ -108,7 +108,7 @@ fn long_name_at(s: &[u8], at: usize) -> Option<NamePlace>
     })
 }
 
-/// The place of the own bytes of the name that is at a place.
+/// Where the own bytes of the name at a place are.
 // <source-name> ::= <positive length number> <identifier>
 #[inline(always)]
 pub fn name_at(s: &[u8], at: usize) -> Option<NamePlace>

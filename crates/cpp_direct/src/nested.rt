@@ -152,7 +152,7 @@ impl Direct {
         self.rest_at::<G>(s)
     }
 
-    /// Reads a name in std at the front of a nested one, whose S has been read.
+    /// Reads a name in std at the front of a nested name, after the S.
     // <prefix> ::= St <unqualified-name>
     fn nest_in_std<G: Grammar>(&mut self, s: &[u8], purpose: Purpose) -> Option<Step>
         requires fits { IsReadable s.now }
@@ -178,7 +178,7 @@ impl Direct {
         self.nest_named::<G>(s)
     }
 
-    /// The name of a component is read. Arguments may follow it, and in the wide grammar a tag before them.
+    /// The name of a component is read. Arguments may follow it; in the wide grammar a tag may precede the arguments.
     // <unqualified-name> ::= <unqualified-name> <abi-tags>
     #[inline(always)]
     fn nest_named<G: Grammar>(&mut self, s: &[u8]) -> Option<Step>
@@ -251,7 +251,7 @@ impl Direct {
         Some(Step::Component)
     }
 
-    /// What is read of a nested name becomes a candidate, since a component follows.
+    /// What was read of a nested name becomes a candidate, since a component follows.
     #[inline(always)]
     fn go_on<G: Grammar>(&mut self, _s: &[u8]) -> Option<()>
         requires { IsWriting (symbol_by G.IS_WIDE G.IS_BARE G.IS_BRIEF _s.now) self.old steps.Tail }
@@ -479,7 +479,7 @@ impl Direct {
         self.class_again::<G>(s)
     }
 
-    /// Writes the name of the class again, as that of its constructor or destructor.
+    /// Writes the name of the class again, as the name of its constructor or destructor.
     #[inline(always)]
     fn class_again<G: Grammar>(&mut self, s: &[u8]) -> Option<Step>
         requires fits { IsReadable s.now }

@@ -23,7 +23,7 @@ pub enum Hiding {
     All,
 }
 
-/// An argument of a name, or an element of a pack, and where its text is in what is written.
+/// An argument of a name, or an element of a pack, and where its text is in the written text.
 #[derive(Clone, Copy)]
 pub struct Argument {
     pub from: u16,
@@ -45,21 +45,21 @@ pub enum Mark {
     ConstRvalue,
 }
 
-/// The first arguments of a name, as far as they are known. If one of them is a pack, its elements
-/// are in its place. A comma and a space separate neighbouring texts.
+/// The first arguments of a name, as far as they are known. If one of them is a pack, the pack's
+/// elements are in its place. A comma and a space separate neighbouring texts.
 #[derive(Clone, Copy)]
 pub struct Arguments {
     /// the place of the encoding whose types may name the arguments, 0 if the place isn't known
     pub encoding: u16,
-    /// where the text of the first one begins
+    /// where the text of the first argument begins
     pub from: u16,
-    /// where the text of each of them ends
+    /// where the text of each argument ends
     pub ends: [u16; MOST_KNOWN],
-    /// whether each of them is a reference
+    /// whether each argument is a reference
     pub references: [bool; MOST_KNOWN],
-    /// how many are known
+    /// how many arguments are known
     pub count: u8,
-    /// whether the last of them is a pack
+    /// whether the last argument is a pack
     pub has_pack: bool,
     /// how many arguments precede the pack
     pub before: u8,
@@ -83,11 +83,10 @@ pub enum Pattern {
 pub enum Purpose {
     /// a type
     Type,
-    /// the name of the encoding; if it is that of a member function, the function has these
-    /// qualifiers
+    /// the name of the encoding; if this is a member function, the function has these qualifiers
     Name { mark: Mark },
-    /// the name of a function that contains a type; it has these qualifiers, and its encoding
-    /// begins at this place
+    /// the name of a function that contains a type; the function has these qualifiers, and its
+    /// encoding begins at this place
     Enclosing { mark: Mark, encoding: u16 },
     /// the name of a function whose address is an argument; the function has these qualifiers
     Address { mark: Mark },
@@ -164,7 +163,7 @@ pub enum Open {
         from: u32,
     },
     /// the arguments of a template, where a member of the instance is an element of what was opened
-    /// before; whether one of them names an argument of the function's template
+    /// before; and whether one of the arguments names an argument of the function's template
     LevelArguments {
         is_dependent: bool,
     },
@@ -175,8 +174,8 @@ pub enum Open {
         start: u32,
         argument: Arguments,
     },
-    /// the parameters of a function: its text begins at this place, or ends there if only the names
-    /// of functions are shown
+    /// the parameters of a function: the function's text begins at this place, or ends there if
+    /// only the names of functions are shown
     Parameters {
         mark: Mark,
         start: u32,

@@ -50,8 +50,7 @@ fn parameter_number(s: &[u8], at: usize) -> Option<ParameterNumber>
     })
 }
 
-/// The most levels of types, that is marks and arguments of types, around a type that names an argument of the function's
-/// template.
+/// The most levels of types, that is, marks and arguments of types, around a type that names an argument of the function's template.
 const MOST_LEVELS: usize = 16;
 
 /// Whether what an entry waits for is within a type: the entry is a mark, or has the arguments of a
@@ -170,8 +169,8 @@ fn expansion_at(s: &[u8], at: usize) -> Option<Expansion>
     })
 }
 
-/// What a pattern adds after the text of a type. If the type is a reference, it isn't known of
-/// which kind.
+/// What a pattern adds after the text of a type. If the type is a reference, the kind of reference
+/// isn't known.
 fn marks_of(pattern: Pattern, is_reference: bool) -> Option<&'static [u8]>
     ensures { IfSome result (λ marks. IsMarkedBy pattern is_reference marks.now) }
 {
@@ -364,7 +363,8 @@ impl Direct {
         })
     }
 
-    /// Reads an argument that is a parameter as an expression. Only the wide grammar has it.
+    /// Reads an argument that is a parameter as an expression. Only the wide grammar has such
+    /// arguments.
     // <template-arg> ::= X <expression> E
     // <expression> ::= <template-param>
     #[inline(never)]
@@ -430,7 +430,7 @@ impl Direct {
     }
 
     /// Whether a nested name that is read for this purpose may name the arguments that types may
-    /// name here: a type may.
+    /// name here: only a type may.
     pub(crate) fn may_depend(&self, purpose: Purpose) -> bool
         ensures is_type { result ≡ true → is_type purpose ≡ true }
         ensures named { result ≡ true → (a : Arguments) × (argument_of (reverse self.now.waiting.list.items) ≡ Some a) × (a.encoding ≢ 0) }
@@ -444,8 +444,8 @@ impl Direct {
         }
     }
 
-    /// A substitution names a type again that names arguments of the function's template, among the
-    /// types of that function.
+    /// Among the types of a function, a substitution repeats a type that names arguments of the
+    /// function's template.
     // <substitution> ::= S <seq-id> _ | S_
     #[inline(never)]
     pub(crate) fn dependent_again<G: Grammar>(

@@ -16,7 +16,7 @@ use crate::marks::mark_at;
 use crate::open::{Arguments, MOST_KNOWN, Mark, Nest, Open, Purpose, Step};
 use crate::tokens::{byte_at, is_guard, is_local, is_suffix, may_end};
 
-/// Before the first nested name.
+/// The value before the first nested name.
 pub const NO_NEST: Nest = Nest {
     from: 0,
     class_from: 0,
@@ -51,7 +51,7 @@ fn has_front(s: &[u8], from: u32) -> bool
     from == 0
 }
 
-/// The place of the encoding whose name is written from here on, 0 if a text precedes the name.
+/// The place of the encoding whose name is written from here on, or 0 if a text precedes the name.
 fn encoding_place(s: &[u8], from: u32) -> u16
     ensures first { result ≢ 0 → from ≡ 0 }
     ensures is { result ≢ 0 → result ≡ encoding_place s.now }
@@ -79,7 +79,7 @@ impl Direct {
         self.list_on::<G>(s, passed)
     }
 
-    /// Reads a type up to the first type in it, or what follows a piece of a nested name, if that
+    /// Reads a type up to the first type in it, or what follows a piece of a nested name, if either
     /// comes next.
     #[inline(always)]
     fn read<G: Grammar>(&mut self, s: &[u8], step: Step) -> Option<Step>
@@ -97,7 +97,7 @@ impl Direct {
         }
     }
 
-    /// Reads components of a nested name, where they come next.
+    /// Reads components of a nested name, if they come next.
     #[inline(always)]
     fn go_through<G: Grammar>(&mut self, s: &[u8], step: Step) -> Option<Step>
         requires fits { IsReadable s.now }
@@ -126,7 +126,7 @@ impl Direct {
         }
     }
 
-    /// Reads an argument, an element of a pack or the end of a list, if that comes next.
+    /// Reads an argument, an element of a pack or the end of a list, if one of them comes next.
     #[inline(always)]
     fn list_on<G: Grammar>(&mut self, s: &[u8], step: Step) -> Option<Step>
         requires fits { IsReadable s.now }
@@ -207,7 +207,7 @@ impl Direct {
         if letter == b'A' {
             return None;
         }
-        // no symbol has an M after its T: in the table of texts, the M is that of GI, a module's
+        // no symbol has an M after its T: the M in the table of texts belongs to GI, a module's
         // initializer
         if letter == b'M' {
             return None;
@@ -261,8 +261,8 @@ impl Direct {
         self.begin_parameters::<G>(s, mark, start, argument)
     }
 
-    /// The arguments of the symbol's own name, which its types may name, are known from here on. A
-    /// symbol has only one such name.
+    /// The arguments of the symbol's own name, which the symbol's types may name, are known from
+    /// here on. A symbol has only one such name.
     #[inline(always)]
     fn begin_scope(&mut self, s: &[u8], argument: Arguments, from: u32) -> Option<Arguments>
         ensures is { IfSome result (λ a. (a ≡ record argument { encoding = a.encoding }) × (a.encoding ≢ 0 → (from ≡ 0) × (a.encoding ≡ encoding_place s.now))) }
@@ -279,8 +279,8 @@ impl Direct {
         })
     }
 
-    /// Where the text of a function that has no return type begins, once its name is written. If
-    /// only the names of functions are shown, where the text ends.
+    /// Where the text of a function that has no return type begins, once its name is written; or
+    /// where the text ends, if only the names of functions are shown.
     #[inline(always)]
     fn start<G: Grammar>(&self) -> u32
         ensures whole { G.IS_BARE ≡ false → result ≡ 0 }
@@ -292,8 +292,8 @@ impl Direct {
         0
     }
 
-    /// Expects the return type of a function, which is written after the function's name. After it
-    /// the name is written once more.
+    /// Expects the return type of a function, which is written after the function's name. After the
+    /// return type the name is written once more.
     // <bare-function-type> ::= <return type> <parameter type>+
     #[inline(never)]
     fn begin_front<G: Grammar>(
@@ -319,7 +319,7 @@ impl Direct {
         Some(Step::Type)
     }
 
-    /// The return type of a function is read: its parameters follow.
+    /// The return type of a function is read: the function's parameters follow.
     // <bare-function-type> ::= <return type> <parameter type>+
     #[inline(never)]
     pub(crate) fn front_ended<G: Grammar>(

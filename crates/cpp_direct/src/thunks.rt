@@ -1,4 +1,4 @@
-// Thunks: functions that call another one, and move the object that they call it on by an offset.
+// Thunks: functions that call another function, and move the object of the call by an offset.
 
 ghost use Rattle.std.specs.Prelude.{◌≡◌, ◌+◌, ◌∷◌, [], ℕ, List, false};
 ghost use Rattle.std.specs.Option.{OnSome, IfSome};

@@ -27,8 +27,8 @@ fn is_array_behind(s: &[u8], at: usize) -> bool
     }
 }
 
-/// The entry for arguments, once one of them names an argument of the function's template, if they
-/// may name one.
+/// The entry for arguments once one of them names an argument of the function's template, if
+/// arguments of that entry may name any.
 pub fn dependent(entry: Open) -> Option<Open>
     ensures { IfSome result (IsDependentNow entry) }
 {
@@ -329,8 +329,8 @@ impl Direct {
         }
     }
 
-    /// Forwards a type that names no argument of the function's template to the entry of an
-    /// argument of a name, or of an element of a pack.
+    /// Forwards a type that names no argument of the function's template. The entry that waits for
+    /// the type is one for an argument of a name, or for an element of a pack.
     #[inline(always)]
     fn pass_to_argument<G: Grammar>(
         &mut self,

@@ -28,7 +28,7 @@ impl Direct {
         self.unscoped_named::<G>(s, from, true)
     }
 
-    /// An operator that isn't one of a class.
+    /// An operator that belongs to no class.
     // <unscoped-name> ::= <operator-name>
     #[inline(never)]
     pub(crate) fn begin_operator<G: Grammar>(&mut self, s: &[u8]) -> Option<Step>
@@ -65,8 +65,8 @@ impl Direct {
         self.unscoped_named::<G>(s, from, true)
     }
 
-    /// The name of an encoding is read, and written from a place on. Arguments may follow the name,
-    /// if it accepts them, and in the wide grammar a tag before them.
+    /// The name of an encoding is read, and written from a place on. If the name accepts arguments,
+    /// they may follow it; in the wide grammar a tag may precede them.
     // <unqualified-name> ::= <unqualified-name> <abi-tags>
     fn unscoped_named<G: Grammar>(&mut self, s: &[u8], from: u32, takes: bool) -> Option<Step>
         requires fits { IsReadable s.now }
@@ -98,8 +98,8 @@ impl Direct {
         self.open_arguments::<G>(Open::NameArguments { from })
     }
 
-    /// Reads an operator, and answers whether arguments after it are read: not after << or <, where
-    /// a blank precedes them.
+    /// Reads an operator, and answers whether arguments may follow it: none are read after << or <,
+    /// where a blank precedes arguments.
     // <operator-name> ::= nw | na | dl | da | ps | ng | ..
     #[inline(never)]
     pub(crate) fn operator_name(&mut self, s: &[u8]) -> Option<bool>

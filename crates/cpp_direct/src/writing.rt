@@ -78,7 +78,8 @@ impl Direct {
         })
     }
 
-    /// The text of an argument of the function's template becomes a candidate that names it.
+    /// The text of an argument of the function's template becomes a candidate that names the
+    /// argument.
     #[inline(always)]
     pub(crate) fn add_argument(&mut self, argument: Argument) -> Option<()>
         ensures candidates { OnSome result (self.new.candidates.list.items ≡ with_argument self.old argument) }
@@ -128,7 +129,7 @@ impl Direct {
         self.add_candidate(from, false, is_dependent)
     }
 
-    /// Writes what is in the text once more.
+    /// Writes a stretch of the text once more.
     #[inline(never)]
     pub(crate) fn repeat(&mut self, from: u32, to: u32) -> Option<()>
         requires from { from ≤ to }
@@ -138,8 +139,8 @@ impl Direct {
         self.text.repeat(from as usize, to as usize)
     }
 
-    /// Removes what was written up to a place. If anything was, no candidates remain; in the symbol
-    /// of a local entity they remain, but all of them are nowhere.
+    /// Removes what was written up to a place, if anything was. Then no candidates remain, except
+    /// in the symbol of a local entity, where all of them become nowhere.
     #[inline(always)]
     pub(crate) fn cut(&mut self, s: &[u8], start: u32) -> Option<()>
         ensures { OnSome result (Cuts s.now self.old self.new start) }
@@ -159,8 +160,8 @@ impl Direct {
         Some(())
     }
 
-    /// Removes what was written after a place. No candidates remain; in the symbol of a local
-    /// entity they remain, but all of them are nowhere.
+    /// Removes what was written after a place. No candidates remain, except in the symbol of a
+    /// local entity, where all of them become nowhere.
     #[inline(always)]
     pub(crate) fn keep(&mut self, s: &[u8], end: u32)
         requires within { end ≤ length self.old.text.list.items }
@@ -185,7 +186,8 @@ impl Direct {
         hide(&mut self.candidates, Hiding::All);
     }
 
-    /// Removes what was written after a place. Candidates that end after it are then nowhere.
+    /// Removes what was written after a place. Candidates that end after that place are then
+    /// nowhere.
     pub(crate) fn leave_out(&mut self, to: u32) -> Option<()>
         requires within { to ≤ length self.old.text.list.items }
         ensures text { OnSome result (self.new.text.list.items ≡ take to self.old.text.list.items) }
@@ -241,7 +243,7 @@ impl Direct {
     }
 }
 
-/// Whether a candidate is what it was.
+/// Whether a candidate keeps its text.
 #[inline(always)]
 fn stays(hiding: Hiding, candidate: Candidate) -> bool
     ensures { result ≡ true → Stays hiding candidate }
@@ -253,7 +255,7 @@ fn stays(hiding: Hiding, candidate: Candidate) -> bool
     }
 }
 
-/// Candidates that don't stay what they were become nowhere.
+/// The candidates that don't keep their texts become nowhere.
 #[inline(always)]
 fn hide(candidates: &mut Bounded<Candidate>, hiding: Hiding)
     ensures { AreLeft hiding candidates.old.list.items candidates.new.list.items }

@@ -1,5 +1,5 @@
--- In the ABI's grammar there is no tag, so the same may follow a parameter or a substitution as any other name. No pack
--- begins with an I, so the arguments from the first one on are like those after it.
+-- In the ABI's grammar there is no tag, so what may follow any other name may also follow a parameter or a
+-- substitution. No pack begins with an I, so a list of arguments is like the rest of the list after its first argument.
 use Rattle.cpp_grammar.proofs.Basics.{◌≡◌, refl, sym, ◌∙◌, ℕ, Kind as OfKind, Table, Tree, branch, empty, token, fixed, IsTree, MAYBE_ARGUMENTS, ARGUMENTS_ALONE, NEST_REST, NEST_REST_ALONE, ARGUMENT_LIST, ARGUMENTS_FIRST, kinds, alternatives, choose, may_be_empty, abi}
 use Rattle.cpp_grammar.specs.declared.kind.Kind.{Kind}
 use Rattle.cpp_grammar.proofs.Choosing.{rule_at_kind, empty_at_kind}

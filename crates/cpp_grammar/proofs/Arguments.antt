@@ -1,4 +1,4 @@
--- A type is also an argument, and also the first type of a lambda: another tree of the same bytes denotes the same there.
+-- A type can also be an argument or the first type of a lambda. The tree that its bytes have as such denotes the same.
 use Rattle.cpp_grammar.proofs.Basics.{◌≡◌, ℕ, ◌+◌, ◌-◌, List, [], ◌∷◌, ◌++◌, length, slice_get, Bool, true, false, cond, ◌||◌, ◌&&◌, nat_eq, Option, Some, None, Result, Ok, Err, refl, ap, sym, ◌∙◌, subst, lit≤, arith, append-nil, true≢false, eqb-true, and_parts, Refusal, Token, Rule, Kind as OfKind, Table, symbols_of, Tree, Forest, branch, empty, token, fixed, nothing, grown, spell, TakesRule, IsTree, AreTrees, Found, Next, ◌>>=◌, alone, found, standing, unfold_tree, unfold_forest, Production, ITEM, SOLID, SOLID_BUT_T, ARGUMENT, ARGUMENT_AFTER_T, FIRST_OF_LAMBDA, FIRST_AFTER_T, LEVELED_PARAMETER, Alternative, in_ranges, among, is_in, pick, alternatives, kinds, productions, number_of, number_of_kind, parts_of, is_chain, may_be_empty, wide_alternatives, rule_of, rule_taken, padded, sheet, abi, wide_sheet, wide, sheet_with, State, Around, Value, nothing_there, text, part, parameter_named, parameter_so_far, index_of, between, listed_so_far, meaning, opening, close, production_at, byte_of, cpp}
 use Rattle.cpp_grammar.specs.declared.kind.Kind.{Kind}
 use Rattle.cpp_grammar.specs.Unfolding as unfolding_
@@ -34,7 +34,7 @@ tree_one empty around place state = one nothing_there state
 tree_one (token t) around place state = one (text t.own) state
 tree_one (fixed byte) around place state = one nothing_there state
 
--- if a part has one value, what follows it only has to be the same for a single value
+-- if a part is refused or has one value, two continuations of the part agree if they agree on each single value
 pub first_same : (m : Result Read Refusal) → One m → (f h g k : Read → Result Read Refusal) → ((v : Value) (s : State) → (f (found (v ∷ []) s) >>= g) ≡ (h (found (v ∷ []) s) >>= k)) → ((m >>= f) >>= g) ≡ ((m >>= h) >>= k)
 first_same _ (refused e) f h g k same = refl
 first_same _ (one v s) f h g k same = same v s
@@ -167,7 +167,7 @@ wide_first_begins = record { items = refl; solids = refl }
 
 -- ## Its tree
 
--- a tree of another kind, in the place of this one
+-- a tree of another kind, in place of a tree of this kind
 pub record Replaces (g : Table) (kind : ℕ) (t : Tree) : Type 0 where
   pub tree : Tree
   pub is : IsTree g (OfKind kind) tree
@@ -206,7 +206,7 @@ module _ (begins : Kind → List Alternative) where
   unfolding rule_taken
   chained k kind p at picked eats = record { byte = 95; is_byte = lit≤ tt; found = rule_with begins k kind 95 at ∙ ap rule_taken picked; takes = ap (λ e. cond e (95 ∷ []) []) (sym eats) }
 
-  -- a parameter of this kind, in the place of a type that is a parameter
+  -- a parameter of this kind, in place of a type that is a parameter
   abbrev pub AsParameter : (kind : ℕ) → (behind_t : Production) → Type 0
   AsParameter kind behind_t = (parts : Forest) → AreTrees (table_with begins) (symbols_of (rule_of Production.Parameter)) parts
       → TakesRule (table_with begins) kind (rule_of behind_t) (84 ∷ [])

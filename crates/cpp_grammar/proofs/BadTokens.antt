@@ -3,7 +3,7 @@ use Rattle.cpp_grammar.proofs.Basics.{ℕ, ◌+◌, ◌-◌, ◌^◌, List, [], 
 use Rattle.cpp_grammar.proofs.Chosen.{either, if_there}
 use Rattle.cpp_grammar.proofs.Ways.{Way, reading_by, abi_way, wide_way}
 
--- this is refused only for a bad token
+-- the result is a refusal only for a bad token
 abbrev IsBad : {A : Type 0} → Result A Refusal → Type 0
 IsBad r = IfErr r IsBadToken
 

@@ -1,4 +1,4 @@
--- The rule that the table has is that of the production that a kind takes.
+-- The rule in the table is the rule of the production that a kind takes.
 use Rattle.cpp_grammar.proofs.Basics.{◌≡◌, ◌≢◌, ℕ, zero, suc, ◌+◌, ◌<◌, ◌≤◌, List, [], ◌∷◌, ◌++◌, length, map, get_or, slice_get, Bool, true, false, not, cond, Option, ◌&&◌, ◌||◌, leb, nat_eq, nat_le, Some, None, inl, inr, refl, ap, sym, ◌∙◌, arith, option_map, take_all, slice_get-map, get_or_from_slice_get, slice_get_cases, true≢false, le-leb, lt-leb, eqb-true, and_parts, cases_Bool, cases_order, leb_tells, eqb_tells, Rule, TakesRule, range, in_range, classes_of, choice_at, Production, Alternative, in_ranges, among, is_in, pick, alternatives, choose, kinds, number_of_kind, may_be_empty, wide_alternatives, wide_choose, rule_of, rule_taken, ranges_of, class_of, choice_of, sheet_with, blank, sheet, abi, wide_sheet, wide}
 use Rattle.std.proofs.lemmas.List.Folds.{list_any-append}
 use Rattle.sym_shape.specs.Sheet as sheets
@@ -145,7 +145,7 @@ chosen_rule k rule taken lt takes = go (slice_get kinds k) refl
     go None none = absurd (is_wide_kind k lt none)
     go (Some kind) at = by kind at (wide_choose kind takes.byte) refl (sym (wide_rule_at k kind takes.byte at) ∙ takes.found)
 
--- what holds for each production of a kind holds for the productions of its trees
+-- what holds for each production of a kind holds for the productions of the kind's trees
 pub taken_passes : (passes : ℕ → Production → Bool) → ((kind : Kind) → each_passes (passes (number_of_kind kind)) (wide_alternatives kind) ≡ true) → (k : ℕ) (rule : Rule) (c : Chosen k rule) →
     passes k c.production ≡ true
 unfolding wide_choose

@@ -151,7 +151,7 @@ signature_goes own p around at vs state n is all e =
     goes_by own (Within own p around) around at state vs (in_signature around) state n all (grows_same own around at state state refl) (fits_signature own around)
     (λ within. (refl, λ o. absurd (true≢false (sym is ∙ within.1 o)))) e
 
--- likewise where the surroundings stay as they are
+-- the inputs of the next part, where the surroundings stay as they are
 quiet_goes : (own : Bool) (p : Production) (around : Around) (at : ℕ) (vs : List Value) (state : State) (n : Next Value State Around) → GoodPrefix (Bare own around) around.prefix → AllGood (Within own p around) vs →
     ◌≡◌ {A = Continuation} (next vs around state) (Ok n) → Goes own (Within own p around) around at state n
 quiet_goes own p around at vs state n pre all e =
@@ -279,7 +279,7 @@ wide_goes p around place vs state n at stays pre old all e = goes_within true p 
 
 -- ## Values that aren't used
 
--- the inputs of the next part of a production, where the values that it uses are closed
+-- the inputs of the next part of a production, where the values that the production uses are closed
 pub record Moves (own : Bool) (p : Production) (around : Around) (at : ℕ) (state : State) (n : Next Value State Around) : Type 0 where
   pub values : AllGood (Within own p around) (read_of p own n.values)
   pub grows : Grows own around at state n.state

@@ -1,4 +1,4 @@
--- The candidates that a part appends are closed where no parameters are named around it.
+-- The candidates that a part appends are closed where no parameters are named around the part.
 use Rattle.cpp_grammar.proofs.Basics.{◌≡◌, refl, ap, sym, ◌∙◌, subst, ℕ, zero, suc, ◌-◌, ◌<◌, ◌≤◌, List, [], ◌∷◌, ◌++◌, Bool, true, false, not, ◌||◌, ◌&&◌, nat_eq, nat_lt, slice_get, Option, Some, None, Result, Ok, Err, ◌⊎◌, inl, inr, arith, eqb-true, true≢false, false≢true, Refusal, BadReference, Found, ◌>>=◌, found, Production, Term, parameter, lambda, generic_lambda, list, absent, count, element, is_list, has_pack, length_if_pack, is_open, pack_length, Free, none_free, one_free, several_free, free_in, ScopesAreClosed, Seq36, counted_value, Counted, by_all, by_newer, by_gcc, Candidate, Lists, both_lists, longer_list, shorter_list, no_list, Counting, State, Around, prefix_tree, prefix_listed, Value, nothing_there, tree, piece, pair, is_listed, text_of, local_number, part, tree_of, appended, appended_by, is_function_type, with_type, with_unqualified, with_prefix, with_packs, packs_in, is_module, substituted, parameter_named, is_unseen, is_passed_over, name_if, is_declaring, lambda_with, as_generic_lambda, with_holder, counted_unless, counted_base, counted_held, with_constructor, with_held, place_in, named_in, is_by_all, counted_so_far, awaiting, noting, left_at, with_lists, listed_by, is_foreign, in_scope, under_scope, with_free, restated, substituted_wide, numbered, close_wide, parameters, signature_with, meaning, close, no_items, gained, row_of}
 use Rattle.std.proofs.lemmas.List.{append_assoc, append-nil}
 use Rattle.cpp_grammar.specs.Unfolding as unfolding_
@@ -8,7 +8,8 @@ use Rattle.cpp_grammar.proofs.Declared.{makes_declared, read_of}
 use Rattle.cpp_grammar.proofs.Chosen.{either, either_cond, if_there}
 use Rattle.cpp_grammar.proofs.ClosedValues.{good_where, all_where, prefix_where, Good, AllGood, GoodPrefix, HasClosedName, held, good_nothing, good_tree, good_held, good_part, good_prefix, meaning_good}
 
--- No parameters are named here: there is no scope, and if a lambda's parameters are its own, this isn't in its signature.
+-- No parameters are named here: there is no scope, and if a lambda's parameters are its own, this place isn't in a
+-- lambda's signature.
 abbrev pub Bare : (own : Bool) → Around → Type 0
 Bare own around = (around.scope ≡ None) × (own ≡ true → around.in_lambda ≡ false)
 
@@ -252,7 +253,7 @@ behind_grows own production byte around began vs state end pre all name =
     gained_grows own (row_of production).gain around vs v state end pre all (good_tree (Bare own around) v (meaning_good (Bare own around) production byte around vs pre all (λ n. name))) in
     either_cond (Grows own around end state) (row_of production).restores_packs (record new { packs = began.packs }) new (λ h. grows_packs own around end state new began.packs gains) (λ h. gains)
 
--- no parameters are in what this production denotes
+-- what this production denotes has no parameters
 abbrev pub YieldsOf : (own : Bool) → Production → Around → Type 0
 YieldsOf own p around = Bare own around × (own ≡ true → makes_declared p ≡ false)
 
@@ -381,7 +382,7 @@ neither : (a b : Bool) → (a || b) ≡ false → b ≡ false
 neither true b e = absurd (true≢false e)
 neither false b e = e
 
--- a lambda has no free parameters, whether or not its signature declares some or has free ones
+-- a lambda has no free parameters, whatever parameters its signature declares or leaves free
 lambda_good : (s : Type 0) (t : Term) (number : ℕ) → ScopesAreClosed t → Good s (lambda_with t number)
 unfolding lambda_with is_open
 lambda_good s t number scopes =

@@ -1,4 +1,4 @@
--- In the tree of a symbol the arguments that are a scope have no free parameters.
+-- In the tree of a symbol, the arguments that are a scope have no free parameters.
 use Rattle.cpp_grammar.proofs.Basics.{◌≡◌, refl, ap, sym, ◌∙◌, subst, ℕ, suc, ◌+◌, ◌-◌, ◌<◌, ◌≤◌, List, [], ◌∷◌, ◌++◌, length, Bool, true, false, not, ◌&&◌, ◌||◌, ◌^◌, nat_eq, nat_lt, Option, Some, None, Result, Ok, Err, inl, inr, lit≤, arith, true≢false, false≢true, cases_Bool, length-append, Refusal, BadValue, Rule, Sym, Kind as OfKind, symbols_of, IsSymbol, AreSymbols, Tree, Forest, branch, empty, token, fixed, nothing, grown, spell, spell_all, TakesRule, IsTree, AreTrees, Found, Open, Next, ◌>>=◌, found, alone, standing, unfold_tree, unfold_forest, Production, Operation, KIND_COUNT, SYMBOL, SPECIAL, SPECIAL_MARK, SPECIAL_AFTER_G, COMPLETE_NAME, ITEMS, kinds, productions, number_of, number_of_kind, parts_of, is_chain, wide_alternatives, wide, wide_sheet, rule_of, padded, wide_sound, Term, is_open, ScopesAreClosed, Candidate, prefix_at, qualified_at, Counting, State, Around, Value, nothing_there, text, tree_of, part, local_number, in_name, in_types, no_items, between, meaning, last_token, number_tested, opening, close, production_at, byte_of, cpp, first_around, first_state, first_tree, unfold_cpp, passed_over, name_if, expecting, expecting_item, calling, ending, noting, opening_wide, cpp_wide, unfold_wide}
 use Rattle.sym_shape.proofs.Firsts.{taken_eats}
 use Rattle.cpp_grammar.specs.declared.kind.Kind.{Kind}
@@ -367,7 +367,7 @@ first_good : (v : Value) (vs : List Value) → vs ≡ v ∷ [] → ScopesAreClos
 unfolding first_tree
 first_good v vs is good = subst (λ ws. ScopesAreClosed (first_tree ws)) (sym is) good
 
--- what holds of all parts of a production holds of those after the one that was read
+-- a property of all parts of a production holds of the parts after the one that was read
 pub left_apart : (p : Production) (first : Bool) (vs us : List Value) (x : Sym) (xs : List Sym) (value : Value) → us ≡ value ∷ [] → parts_apart p first (x ∷ xs) ≡ true → parts_apart p (is_nothing (vs ++ us)) xs ≡ true
 unfolding parts_apart
 left_apart p first vs us x xs value is apart =
@@ -405,7 +405,7 @@ module _ (w : Way) (keeps : KeepsClosed w) where
         ap (λ x. x.state) (sym same),
       )
 
-  -- before a second part the values stay as they are
+  -- the values stay as they are before a second part
   pub skipped_stays : (p : Production) (around : Around) (place : ℕ) (vs : List Value) (state : State) (n : Next Value State Around) → skips p ≡ true → w.between p around place vs state ≡ Ok n → n.values ≡ vs
   unfolding skips between all_pass differs
   skipped_stays Production.DeclaredArgument around place vs state n h e =
@@ -675,7 +675,7 @@ module _ (w : Way) (keeps : KeepsClosed w) where
     trees_good_by nothing = tt
     trees_good_by (grown t f) = (tree_good_by t, trees_good_by f)
 
-  -- In the tree that a symbol denotes the arguments that are a scope have no free parameters.
+  -- In the tree that a symbol denotes, the arguments that are a scope have no free parameters.
   pub scopes_are_closed_by : (shape : Tree) (t : Term) → IsTree wide (OfKind SYMBOL) shape → (unfold_tree (reading_by w) first_around 0 shape first_state >>= λ whole. Ok (first_tree whole.value)) ≡ Ok t → ScopesAreClosed t
   unfolding first_around first_state first_tree is_encoding declares is_declaration is_first
   scopes_are_closed_by shape t is e =
@@ -704,7 +704,7 @@ unfolding cpp reading_by abi_way
 tree_good t x around at state r known is le inside pre old e =
     tree_comes false x around (at + length (spell t)) state r (λ own. absurd (false≢true own)) (tree_good_by abi_way abi_keeps t x around at state r known is le inside pre old e)
 
--- In the tree that a symbol denotes the arguments that are a scope have no free parameters.
+-- In the tree that a symbol denotes, the arguments that are a scope have no free parameters.
 pub scopes_are_closed : (shape : Tree) (t : Term) → IsTree wide (OfKind SYMBOL) shape → unfold_cpp shape ≡ Ok t → ScopesAreClosed t
 unfolding unfold_cpp cpp reading_by abi_way
 scopes_are_closed shape t is e = scopes_are_closed_by abi_way abi_keeps shape t is e

@@ -1,4 +1,4 @@
--- What productions denote is closed where the values of their parts are.
+-- What a production denotes is closed if the values of its parts are closed.
 use Rattle.cpp_grammar.proofs.Basics.{◌≡◌, refl, ℕ, zero, suc, List, [], ◌∷◌, ◌++◌, Bool, true, false, ◌||◌, ◌&&◌, nat_eq, true≢false, Production, RefQualifier, lvalue_only, rvalue_only, Term, symbol, function, within, instance, local, of_default, inheriting, lvalue, rvalue, encoding_literal, operation, nil, list, absent, arguments_of, is_open, has_return_type, HasNoneFree, ScopesAreClosed, Around, Prefix, outermost, behind, prefix_tree, Value, nothing_there, letter, tree, piece, named, signature, pair, tree_of, piece_of, letter_of, qualifiers_of, ref_of, is_there, part, extended, applied, no_items, with_tag, inherited, is_void, is_nil, parameters, encoding_of, default_entity, listed_value, with_item, reference_to, signature_or, operator_or_literal, operation_or_address, operation_by, is_code, is_comma, ends_arguments, in_parentheses, enclosed_argument, enclosed_element, meaning, declared_first, signature_with, all_given, given, made, meant, row_of}
 use Rattle.cpp_grammar.specs.Makers.{Maker, new_symbol, new_special, new_of_name, new_construction, new_clone, new_in_std, new_instance, new_local, new_abbreviation, new_source, new_operator, new_literal_operator, new_constructor, new_unnamed, new_string_literal, new_conversion, new_builtin, new_sized_float, new_constrained, new_vendor, new_pointer, new_lvalue, new_rvalue, new_array, new_bounded, new_member_pointer, new_function_type, new_qualified, new_vector, new_complex, new_expansion, new_integer, new_boolean, new_null_pointer, new_decltype, new_encoding_literal, new_operation, new_function_parameter, new_pack, new_enumeration, new_bindings}
 use Rattle.cpp_grammar.specs.Builders.{Argument, argument, built, tree_in}
@@ -29,7 +29,7 @@ abbrev pub PrefixIf : (q s : Type 0) → Prefix → Type 0
 PrefixIf q s outermost = Unit {0}
 PrefixIf q s (behind t listed) = GoodIf q s t
 
--- where the scopes are closed in any case
+-- the tree is closed under a condition, and the scopes in it are closed in any case
 abbrev pub Good : Type 0 → Term → Type 0
 Good s t = GoodIf (Unit {0}) s t
 
@@ -168,7 +168,7 @@ module _ {q : Type 0} where
   good_signature_or s ref (letter b) g = g
   good_signature_or s ref v g = g
 
-  -- the declaration before a lambda's first type, with that type, is good if both are
+  -- a declaration together with a lambda's first type is good if both are good
   good_declared : (s : Type 0) (head v : Value) → GoodIf q s (tree_of head) → GoodIf q s (held v) → GoodIf q s (held (declared_first head v))
   unfolding declared_first held
   good_declared s head (pair key first heads) g h = good_list s first _ (good_first s first heads h) (good_list s (tree_of head) heads g (good_second s first heads h))
@@ -369,7 +369,7 @@ module _ {q : Type 0} where
       good_encoding s (part vs 0) (no_items (part vs 1)) name (good_part s vs 0 all).scopes (good_no_items s (part vs 1) (good_part s vs 1 all)).scopes
   meaning_good s production byte around vs pre all name = meant_good s (row_of production).form byte around vs tt pre all
 
--- good values stay good in one list, and under a stronger condition; so does a prefix
+-- two lists of good values are good as one list; good values, and a good prefix, stay good under a stronger condition
 pub all_append : (s : Type 0) (vs ws : List Value) → AllGood s vs → AllGood s ws → AllGood s (vs ++ ws)
 all_append s [] ws f g = g
 all_append s (v ∷ vs) ws f g = (f.0, all_append s vs ws f.1 g)

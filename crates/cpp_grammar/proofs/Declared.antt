@@ -1,5 +1,5 @@
--- The declaration of a parameter names parameters that are declared with it, wherever it is read. So by the wide reading it is
--- closed nowhere, and no production outside a signature uses its value.
+-- The declaration of a parameter names parameters that are declared with it, wherever it is read. So it isn't closed anywhere
+-- in the wide reading, and no production outside a signature uses its value.
 use Rattle.cpp_grammar.proofs.Basics.{◌≡◌, refl, ap, sym, ◌∙◌, List, [], ◌∷◌, ◌++◌, Bool, true, false, not, ◌||◌, ◌&&◌, nat_eq, true≢false, false≢true, Sym, Kind as OfKind, Production, Operation, DECLARATION_AFTER_T, DECLARATIONS, FIRST_OF_LAMBDA, FIRST_AFTER_T, number_of_kind, parts_of, wide_alternatives, Value, nothing_there}
 use Rattle.cpp_grammar.specs.declared.kind.Kind.{Kind}
 use Rattle.cpp_grammar.proofs.Choosing.{each_passes}

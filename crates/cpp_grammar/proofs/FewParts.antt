@@ -8,7 +8,7 @@ use Rattle.cpp_grammar.specs.Operations.{Operation, operations, operation_of_cod
 use Rattle.cpp_grammar.proofs.Chosen.{either, either_cond}
 use Rattle.cpp_grammar.proofs.Steps.{first_of_both, second_of_both}
 
--- at most this many parts
+-- the list has at most this many parts
 abbrev HasFew : ℕ → List (PartOf Item) → Type 0
 HasFew n ps = length ps ≤ n
 

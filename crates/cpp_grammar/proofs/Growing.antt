@@ -1,4 +1,5 @@
--- Each tree of the earlier grammar is one of the grammar, and each of the grammar is one of the wide one.
+-- Each tree of the earlier grammar is a tree of the ABI's grammar, and each tree of the ABI's grammar is one of the
+-- wide grammar.
 use Rattle.cpp_grammar.proofs.Basics.{◌≡◌, ℕ, zero, suc, ◌<◌, List, [], ◌∷◌, map, get_or, slice_get, Bool, true, false, ◌&&◌, nat_eq, Option, Some, None, inl, inr, refl, ap, sym, ◌∙◌, subst, arith, eqb-true, and_parts, false≢true, cases_lt, slice_get_cases, slice_get-map, unwrap_or-slice_get, option_map, unwrap_or, Rule, Sym, Kind as OfKind, Name, Number, Byte, choice_at, table_of, Table, symbols_of, Tree, Forest, branch, empty, token, fixed, nothing, grown, TakesRule, IsTree, AreTrees, Cpp, Production, Operation, Alternative, in_ranges, among, is_in, pick, alternatives, choose, kinds, productions, number_of, wide_alternatives, wide_choose, rule_taken, sheet_with, sheet, blank, abi, sheet_before, abi_before, wide_sheet, wide}
 use Rattle.cpp_grammar.specs.declared.kind.Kind.{Kind}
 use Rattle.cpp_grammar.specs.Before.{alternatives_before}
@@ -75,7 +76,7 @@ pub rule_with : (begins : Kind → List Alternative) (k : ℕ) (kind : Kind) (by
 unfolding sheet_with
 rule_with begins k kind byte at = ap (λ s. choice_at s.choices byte) (sheet_at begins k kind at) ∙ picked (begins kind) byte
 
--- past the kinds no rule is taken, and nothing may be empty
+-- the sheet of a number past the last kind is blank
 past_kinds : (begins : Kind → List Alternative) (k : ℕ) → slice_get kinds k ≡ None → get_or (map (sheet_with begins) kinds) k blank ≡ blank
 past_kinds begins k past =
     sym (unwrap_or-slice_get (map (sheet_with begins) kinds) k blank)

@@ -3,7 +3,7 @@ use Rattle.cpp_grammar.proofs.Basics.{◌≡◌, ℕ, ◌+◌, ◌-◌, ◌*◌,
 use Rattle.cpp_grammar.specs.declared.kind.Kind.{Kind}
 use Rattle.cpp_grammar.proofs.Choosing.{rule_at_kind, is_kind}
 
--- the letter of a kind's row below a byte, which is the number of a production; `row` is the default
+-- the letter that a kind's row has for a byte: the number of a production; `row` is the default
 unfoldable pub letter : List ℕ → ℕ → ℕ → Option ℕ
 letter row k byte = letter_below (get_or LETTERS k row) byte
 
@@ -22,7 +22,7 @@ unfoldable pub is_number : Option ℕ → Bool
 is_number None = true
 is_number (Some number) = ltb number PRODUCTION_COUNT
 
--- the rows have the productions of the grammar: for these first kinds, and for the others
+-- the rows have the productions of the grammar, which is shown for the first kinds and then for the others
 abbrev FIRST_KINDS : ℕ
 FIRST_KINDS = 88
 
@@ -80,7 +80,7 @@ rule_at row k byte k_lt byte_lt =
 pub rule_listed : (head : Head) (n : ℕ) → n < PRODUCTION_COUNT → Some (listed_rule head n) ≡ rule_taken (slice_get productions n)
 rule_listed head n = alike_at (λ n. Some (listed_rule head n)) (λ n. rule_taken (slice_get productions n)) PRODUCTION_COUNT n (rules head)
 
--- in the list of symbols each rule has six places, after those of the start
+-- each rule has six places in the list of symbols, after those of the start
 places : (head : Head) → map (λ n. abi_listed (n * 6 + 6)) (range_with_len 0 PRODUCTION_COUNT) ≡ map (λ n. symbols_of (listed_rule head n)) (range_with_len 0 PRODUCTION_COUNT)
 unfolding listed_rule
 places head = refl

@@ -1,4 +1,4 @@
--- From values without free parameters a production makes a value without free parameters.
+-- A production makes a value without free parameters from values without free parameters.
 use Rattle.cpp_grammar.proofs.Basics.{◌≡◌, ℕ, List, [], ◌∷◌, false, Production, Term, list, is_open, Around, Prefix, outermost, behind, prefix_tree, Value, tree_of, part, no_items, parameters, encoding_of, meaning, Made, made}
 use Rattle.cpp_grammar.proofs.ClosedValues.{held, GoodIf, AllIf, PrefixIf, good_tree, good_part, good_pair, good_parameters, good_prefix, good_encoding, made_tree_good, meaning_good}
 

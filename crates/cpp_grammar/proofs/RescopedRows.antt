@@ -1,4 +1,4 @@
--- Symbols that only the reading of the wide grammar accepts, with shapes of the ABI's grammar.
+-- Symbols that have shapes of the ABI's grammar, but are accepted only by the wide grammar's reading.
 use Rattle.cpp_grammar.proofs.Basics.{◌≡◌, refl, ℕ, true, Bool, List, [], ◌∷◌, ◌&&◌, Some, None, Detail, in_ranges, among, is_in, pick, number_of_kind, alternatives, choose, parts_of, is_chain, may_be_empty, kinds, productions, number_of, padded, rule_of, is_in_constraint, is_at_literal, prefix_tree, prefix_listed, tree_of, piece_of, is_listed, qualifiers_of, ref_of, letter_of, is_there, mark_of, text_of, signed_of, adjustment_of, normal, is_zero, signed_digits, local_number, part, both_free, free_in, count, element, is_list, is_alone, has_pack, arguments_of, before_arguments, is_structor, has_return_type, is_open, first_of, length_if_pack, pack_length, appended, is_function_type, with_type, with_unqualified, with_prefix, with_packs, packs_in, is_module, substituted, parameter_named, in_name, in_types, in_signature, under_expansion, after, inside, extended, applied, no_items, named_so_far, listed_so_far, parameter_so_far, index_of, between, is_void, is_nil, parameters, encoding_of, listed_value, discriminator_of, with_item, reference_to, signature_or, operator_or_literal, meaning, signature_with, same_bytes, look_up, builtin_texts, operator_texts, abbreviation_texts, special_texts, named_special_texts, literal_endings, indexed, argument, collapsed, head_with, head_closed, head, is_reference, is_funarr, packs_of, is_none_of, is_empty, own_argument, signature_of, text_part, list_part, qualifier_text, ref_text, blank_last, begins_with, source_text, piece_parts, prefix_item, before_piece, attached_parts, component_parts, within_parts, last_piece, opening_text, instance_parts, marked_parts, reference_parts, qualified_left, expansion_parts, sign_part, is_plain_integer, builtin_code, integer_parts, member_parts, array_left, entity_of, left_parts, low_parts, function_right, closing_right, qualified_right, right_parts, base_within, base_parts, types_of, encoding_text, function_bare, begins_parameters, function_full, thunk_text, full_parts, bare_parts, root_parts, first_parts, more_parts, at_index, is_below, comma_before, expand_rest, expand_parts, parts_in, not_empty, parts, generic_parts, parameter_parts, or_none, pack_count, weight, scope_weight, weight_in, rank_in, rank}
 use Rattle.std.specs.Fmt.{digits}
 use Rattle.sym_print.specs.Unfold.{printed_to, printed}

@@ -1,4 +1,5 @@
--- What follows a name in a nested name also follows a substituted name: another tree of the same bytes denotes the same there.
+-- What follows a name in a nested name may also follow a substituted name: there, another tree of the same bytes denotes the
+-- same.
 use Rattle.cpp_grammar.proofs.Basics.{◌≡◌, ℕ, ◌+◌, List, [], ◌∷◌, ◌++◌, length, Bool, true, false, ◌&&◌, nat_eq, Option, Some, None, Result, refl, ap, sym, ◌∙◌, subst, add-zero, append-nil, lit≤, eqb-true, and_parts, Refusal, Kind as OfKind, symbols_of, Tree, Forest, branch, empty, token, fixed, nothing, grown, spell, TakesRule, IsTree, AreTrees, ◌>>=◌, alone, found, standing, unfold_tree, unfold_forest, Production, NEST_REST, NEST_REST_OR_END, NEST_MORE_OR_END, in_ranges, among, is_in, pick, alternatives, kinds, productions, number_of, number_of_kind, parts_of, is_chain, may_be_empty, rule_of, padded, sheet, abi, instance, State, Around, prefix_tree, prefix_listed, Value, nothing_there, tree, tree_of, part, appended, with_prefix, inside, after, no_items, named_so_far, listed_so_far, between, meaning, opening, close, production_at, byte_of, cpp}
 use Rattle.cpp_grammar.specs.declared.kind.Kind.{Kind}
 use Rattle.cpp_grammar.specs.Unfolding as unfolding_

@@ -1,4 +1,4 @@
--- Each row fits the parts of its production, and what a kind's productions denote is of the sorts that parts of this kind may be.
+-- Each row fits the parts of its production. What a kind's productions denote is of a sort that parts of this kind may have.
 use Rattle.cpp_grammar.proofs.Basics.{◌≡◌, refl, true, Production, Operation, number_of_kind, alternatives, parts_of, kinds, may_be_empty, wide_alternatives, before_part, row_of}
 use Rattle.cpp_grammar.specs.declared.kind.Kind.{Kind}
 use Rattle.cpp_grammar.specs.Sorts.{rank_of, among_sorts, share_one, are_among, without_none, takes, sort_made, own_gives, kind_gives, sorts_of, sorts_at, reads, is_part, sort_given, is_given, are_given, is_made, listing_fits, gain_fits, where_fits, step_fits, tree_first, after_step, form_fits, gives, reads_number, is_numbered, known_from, steps_fit, row_fits, all_give}

@@ -1,5 +1,5 @@
--- What the ABI's reading doesn't refuse is the same in the wide grammar's reading: what the ABI's reading reads in a lambda's
--- signature has no free parameters.
+-- Where the ABI's reading refuses nothing, the wide grammar's reading agrees with it: what the ABI's reading reads in a
+-- lambda's signature has no free parameters.
 use Rattle.cpp_grammar.proofs.Basics.{◌≡◌, refl, ap, sym, ◌∙◌, subst, ℕ, zero, suc, ◌+◌, ◌-◌, List, [], ◌∷◌, ◌++◌, length, Bool, true, false, not, ◌||◌, ◌&&◌, cond, nat_eq, nat_lt, ◌<◌, slice_get, Option, Some, None, Result, Ok, Err, lit≤, eq-eqb, true≢false, false≢true, IfOk, Refusal, BadReference, Seq36, counted_value, Rule, Sym, Kind as OfKind, symbols_of, IsSymbol, AreSymbols, Tree, Forest, branch, empty, token, fixed, nothing, grown, spell, TakesRule, IsTree, AreTrees, Found, Next, Open, ◌>>=◌, found, alone, standing, unfold_tree, unfold_forest, Production, Operation, SYMBOL, SPECIAL, SPECIAL_MARK, SPECIAL_AFTER_G, is_in, number_of_kind, parts_of, wide_alternatives, wide, Term, parameter, lambda, generic_lambda, list, count, element, is_open, length_if_pack, by_all, Candidate, Counting, prefix_at, qualified_at, shown, is_in_constraint, is_at_literal, State, Around, prefix_tree, prefix_listed, Value, nothing_there, text, tree, piece, tree_of, is_listed, text_of, local_number, part, appended, is_function_type, with_type, with_unqualified, with_prefix, with_packs, packs_in, is_module, substituted, parameter_named, in_name, in_types, in_signature, under_expansion, after, inside, no_items, Continuation, listed_so_far, parameter_so_far, index_of, between, next, argument_so_far, made, is_listing, around_part, packs_within, gained, replaced, tested as tested_, done, row_of, parameters, meaning, opening, close, production_at, byte_of, cpp, first_around, first_state, first_tree, unfold_cpp, is_unseen, in_literal, is_passed_over, passed_over, name_around, types_around, name_if, generic_so_far, parameter_here, is_declaring, lambda_with, as_generic_lambda, is_before_holder, is_by_newer, is_by_all, is_in_list, place_in, named_in, joined, counted_so_far, awaiting, expecting, expecting_item, calling, ending, noting, opening_wide, is_foreign, restated, substituted_wide, numbered, between_wide, close_wide, cpp_wide, unfold_wide, argument_here, generic_number, wide_sound}
 use Rattle.cpp_grammar.specs.declared.kind.Kind.{Kind}
 use Rattle.cpp_grammar.specs.Row.{Gain, nothing, the_prefix, type_of, unqualified_of, itself, Where, as_before, in_its_name, in_its_types, in_a_signature, under_it, nameless, after_part, after_the_name, Action, quiet, goes, becomes, tests, holds, unread, before_part}
@@ -45,7 +45,7 @@ one_of [] n c all e = absurd cc
 one_of (d ∷ cs) zero c all e = let same : d ≡ c = cc in subst (λ x. x.in_lambda ≡ true → HasNone x.tree) same all.0
 one_of (d ∷ cs) (suc n) c all e = one_of cs n c all.2 e
 
--- candidates that all compilers count come before no name with its M
+-- if all compilers count the candidates, the first isn't a name with its M
 none_held : (cs : List Candidate) → AllHaveNone cs → is_before_holder cs ≡ false
 unfolding is_before_holder is_by_newer
 none_held [] all = refl
@@ -203,7 +203,7 @@ tests_none is_name around place k vs state settled all cs =
     if_there passes around.scope _ _ tt (λ arguments is. either passes (nat_lt k (count arguments)) _ _
     (λ h. packed arguments is (packs arguments) (packs_none place around.in_expansion (length_if_pack (element arguments k)) state)) (λ h. tt))
   where
-    -- arguments are named in no signature
+    -- no arguments are named in a signature
     never : (arguments : Term) → around.scope ≡ Some arguments → around.in_lambda ≡ true → HasNone (parameter k)
     never arguments is l = let clash : ◌≡◌ {A = Option Term} None (Some arguments) = sym (settled.bare l) ∙ is in absurd cc
 
@@ -269,7 +269,7 @@ behind_none p byte around began vs state settled all cs =
 
 -- ## References
 
--- where an argument is named there is a scope, and so no signature
+-- if an argument is named, there is a scope, and so no signature
 named_here : (around : Around) (place k : ℕ) (state : State) (f : State → Continuation) (own : Continuation) (n : Next Value State Around) → Settled around → (parameter_named around place k state >>= f) ≡ Ok n →
     ◌≡◌ {A = Continuation} (elim around.in_lambda [ true ↦ own | false ↦ parameter_named around place k state >>= f ]) (Ok n)
 unfolding parameter_named
@@ -350,7 +350,7 @@ named_stays around place c state r none e = go (is_module c.tree) (is_open c.tre
     go false true false false true closed h = let clash : ◌≡◌ {A = Result (Found Value State) Refusal} (Err (BadReference place)) (Ok r) = h in absurd cc
     go false true false false false closed h = h
 
--- in a signature what a substitution names is closed, and it is no candidate
+-- what a substitution names becomes no new candidate, and is closed in a signature
 named_none_ : (around : Around) (place : ℕ) (c : Candidate) (state : State) (r : Found Value State) → substituted around place (Some c) state ≡ Ok r →
     (around.in_lambda ≡ true → HasNone (held r.value)) × (r.state.candidates ≡ state.candidates)
 unfolding substituted held
@@ -379,7 +379,7 @@ record Closes (around : Around) (wide : Result (Found Value State) Refusal) (r :
   value : around.in_lambda ≡ true → HasNone (held r.value)
   candidates : AllHaveNone r.state.candidates
 
--- in either list a number names the candidate at that place
+-- a number names the candidate at that place in either list
 numbered_stays : (around : Around) (place n : ℕ) (state : State) → AllHaveNone state.candidates → numbered around place n state ≡ substituted_wide around place (slice_get state.candidates n) state
 unfolding numbered named_in
 numbered_stays around place n state all =
@@ -452,7 +452,7 @@ close_stays p byte around place began vs state r settled all first cs e = closed
 
 -- ## Trees
 
--- the kinds of what special names denote, which is closed wherever it is
+-- the kinds of special names; what these denote is closed everywhere
 unfoldable is_special : Sym → Bool
 is_special (OfKind k) = nat_eq k SPECIAL || (nat_eq k SPECIAL_MARK || nat_eq k SPECIAL_AFTER_G)
 is_special _ = false

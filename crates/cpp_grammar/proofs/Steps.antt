@@ -1,7 +1,7 @@
--- What holds for each step of a row holds for what is done before any of its parts.
+-- A condition that holds for each step of a row holds for what is done before any part of the row.
 use Rattle.cpp_grammar.proofs.Basics.{◌≡◌, refl, ℕ, zero, suc, List, [], ◌∷◌, Bool, true, false, ◌&&◌, get_or, false≢true, Action, goes, Where, in_its_name, in_its_types, in_a_signature, Row, before_part}
 
--- the condition holds for these steps, and for what is done before each part after theirs
+-- the condition holds for these steps, and for what is done before each later part
 unfoldable pub all_pass : (Action → Bool) → List Action → Action → Bool
 all_pass passes [] onward = passes onward
 all_pass passes (b ∷ rest) onward = passes b && all_pass passes rest onward

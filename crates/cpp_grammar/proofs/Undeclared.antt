@@ -83,7 +83,7 @@ first_taken k rule taken lt takes first =
     ap makes_first (ap (λ x. production_at x.number) c.is ∙ at_number c.production)
     ∙ implied (is_first (OfKind k)) (makes_first c.production) (taken_passes (λ n p. not (is_first (OfKind n)) || makes_first p) only_first k rule c) first
 
--- before a part the values stay as they are
+-- the step before a part leaves the values as they are
 values_stay : (p : Production) (around : Around) (place : ℕ) (vs : List Value) (state : State) (n : Next Value State Around) → has_first p ≡ true → between p around place vs state ≡ Ok n → n.values ≡ vs
 unfolding has_first between all_pass
 values_stay Production.Lambda around place vs state n h e = sym (ap (λ x. x.values) (ok_same _ n e))

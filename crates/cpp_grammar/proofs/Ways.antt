@@ -1,4 +1,4 @@
--- The two readings of C++ as a single one, which takes what is done before the parts of a production, between them and after them.
+-- The two readings of C++ as one, whose parameters are what is done before, between and after the parts of a production.
 use Rattle.cpp_grammar.proofs.Basics.{◌≡◌, refl, ℕ, List, [], ◌∷◌, Bool, true, false, Result, Ok, ◌&&◌, true≢false, false≢true, Refusal, Forest, Found, Reading, found, Production, is_at_literal, State, Around, Value, nothing_there, text, tree_of, part, Term, is_open, Continuation, next, in_name, in_types, between, meaning, opening, close, production_at, byte_of, is_passed_over, passed_over, name_around, types_around, name_if, opening_wide, between_wide, close_wide}
 use Rattle.cpp_grammar.specs.Unfolding as unfolding_
 use Rattle.cpp_grammar.proofs.Steps.{first_of_both}
@@ -45,8 +45,8 @@ differs Production.EncodingLiteral = true
 differs Production.Encoding = true
 differs _ = false
 
--- the productions with parts in a signature, or always in one themselves: lambdas, declarations of parameters, constraints on
--- arguments
+-- the productions whose parts are in a signature, or which are always in one themselves: lambdas, declarations of parameters,
+-- constraints on arguments
 unfoldable pub has_signature : Production → Bool
 has_signature Production.Lambda = true
 has_signature Production.ValueOf = true

@@ -14,7 +14,7 @@ from_base base (Some letter) = Some (base + letter)
 abbrev pub no_row : Row
 no_row = record { base = 0; letters = [] }
 
--- the number of the production that a kind's row has below a byte; `row` is the default
+-- the number of the production that a kind's row has for a byte; `row` is the default
 unfoldable pub wide_number : Row → ℕ → ℕ → Option ℕ
 wide_number row k byte = from_base (get_or WIDE_ROWS k row).base (letter_below (get_or WIDE_ROWS k row).letters byte)
 
@@ -23,7 +23,7 @@ unfoldable pub chosen : Option Kind → ℕ → Option Production
 chosen None byte = None
 chosen (Some kind) byte = wide_choose kind byte
 
--- the rows have the productions of the grammar: for these first kinds, and for the others
+-- the rows have the productions of the grammar, which is shown for the first kinds and then for the others
 abbrev FIRST_KINDS : ℕ
 FIRST_KINDS = 88
 

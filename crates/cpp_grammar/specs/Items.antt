@@ -5,7 +5,7 @@ use Rattle.cpp_grammar.specs.Scope.{element, pack_length}
 
 -- ## Items
 
--- Left and right are what precedes and follows a declared name; low is like left, of a reference under an lvalue reference; base
+-- Left and right are what precedes and follows a declared name; low is like left, for a reference under an lvalue reference; base
 -- is the name of a constructor's class; bare is an encoding without its return type. First and more are a list's elements; expand
 -- is an expansion's elements from a number on, and declared is the declarations of a lambda's parameters from a number on.
 pub data Form : Type 0 where
@@ -22,15 +22,15 @@ pub data Form : Type 0 where
   expand : ℕ → Form
   declared : ℕ → Form
 
--- the signature around a tree, of a lambda with parameters of its own: none, one that declares no parameters, or one with these
+-- the signature of a lambda with parameters of its own, around a tree: none, one that declares no parameters, or one with these
 -- declarations before its types
 pub data Signature : Type 0 where
   in_none : Signature
   undeclared : Signature
   declared_in : (heads parameters : Term) → Signature
 
--- where a tree is printed: the arguments that its parameters name, the index into their packs, and the signature around it, of a
--- lambda with parameters of its own
+-- where a tree is printed: the arguments that its parameters name, the index into their packs, and the signature around the tree
+-- (that of a lambda with parameters of its own)
 pub record Context : Type 0 where
   pub scope : Option Term
   pub index : Option ℕ

@@ -1,4 +1,4 @@
--- C++'s mangling: what its symbols read as, and their answers.
+-- C++'s mangling: what its symbols are read as, and the answers for them.
 use Rattle.std.specs.Prelude.{ℕ, List, Result}
 use Rattle.sym_core.specs.declared.refusal.Refusal.{Refusal}
 use Rattle.sym_print.specs.declared.detail.Detail.{Detail}
@@ -14,11 +14,11 @@ use Rattle.cpp_grammar.specs.Answer.{shown, root_item}
 abbrev pub cpp_mangled : Mangled Term
 cpp_mangled = record { table = abi; unfolded = unfold_cpp; shown = λ detail t. shown detail (root_item t); lawful = lawful }
 
--- likewise over the wide grammar, by its reading; how a tree is shown is defined once
+-- likewise for the wide grammar and its reading; trees are shown in the same way
 abbrev pub wide_mangled : Mangled Term
 wide_mangled = record { table = wide; unfolded = unfold_wide; shown = λ detail t. shown detail (root_item t); lawful = wide_lawful }
 
--- what a symbol reads as, and the answer to it
+-- what a symbol is read as, and the answer for the symbol
 abbrev pub IsReading : List ℕ → Result Term Refusal → Type 0
 IsReading s result = demangle.IsReading cpp_mangled s result
 

@@ -1,4 +1,5 @@
--- The parts of what is printed: each item of a C++ tree has at most eight, texts that aren't empty and further items.
+-- The parts of what is printed: each item of a C++ tree has at most eight parts: texts that aren't empty, and further
+-- items.
 use Rattle.std.specs.Prelude.{ℕ, zero, suc, ◌+◌, ◌^◌, List, [], ◌∷◌, ◌++◌, length, drop, Bool, true, false, cond, ◌||◌, ◌&&◌, nat_eq, nat_le, nat_lt, Option, Some, None, codes, decimal}
 use Prim.Native.String.{String}
 use Rattle.sym_print.specs.declared.detail.Detail.{Detail}
@@ -98,7 +99,8 @@ before_piece context prefix = prefix_item context prefix ∷ says "::" ∷ []
 unfoldable pub attached_parts : Context → (prefix piece : Term) → (module_name : Term) → List (PartOf Item)
 attached_parts context prefix p module_name = before_piece context prefix ++ (as_item piece context p ∷ says "@" ∷ as_item left context module_name ∷ [])
 
--- a prefix that is an operation by W is the module that the piece is attached to; by W@ it is a further prefix and the module
+-- a prefix that is an operation W is the module that the piece is attached to; an operation W@ is a further prefix and the
+-- module
 unfoldable pub component_parts : Context → (prefix piece : Term) → List (PartOf Item)
 component_parts context (operation a b x y) p = elim (nat_eq a 87) [
   | true ↦ elim (nat_eq b 64) [ true ↦ attached_parts context x p y | false ↦ attached_parts context absent p (operation a b x y) ]
@@ -131,7 +133,7 @@ instance_parts false context template arguments = as_item left context template 
 instance_parts true context template arguments =
     (as_item left context template ∷ text (opening_text (last_piece template)) ∷ list_part first context arguments) ++ (says ">" ∷ [])
 
--- the left parts of the inner type, and the mark, after ( where that type is a function or an array
+-- the left parts of the inner type and the mark, with a ( before the mark if that type is a function or an array
 unfoldable pub marked_parts : Context → Term → String → List (PartOf Item)
 marked_parts context t mark = elim (is_funarr (head context t)) [
   | true ↦ as_item left context t ∷ text (codes "(" ++ codes mark) ∷ []
@@ -223,7 +225,7 @@ unfoldable pub comma_before : ℕ → List (PartOf Item)
 comma_before zero = []
 comma_before (suc i) = says ", " ∷ []
 
--- the declarations after the one of this number, if the next number has 32 bits
+-- the declarations after the one with this number, if the next number has 32 bits
 unfoldable pub declared_rest : Context → Term → (number : ℕ) → List (PartOf Item)
 declared_rest context rest k = elim (nat_lt (k + 1) (2 ^ 32)) [ true ↦ list_part (declared (k + 1)) context rest | false ↦ [] ]
 
@@ -273,7 +275,7 @@ unfoldable pub operation_parts : Context → Operation → Term → Term → Lis
 operation_parts context o x y =
     text_part o.front ++ (operand_parts context o.left x ++ (text_part o.between ++ (operand_parts context o.right y ++ text_part o.back)))
 
--- the most parts that an operand has, and then an operation
+-- the most parts of an operand, and of an operation
 abbrev pub most_parts : Operand → ℕ
 most_parts Operand.NotPrinted = 0
 most_parts Operand.AsItIs = 1
@@ -376,7 +378,7 @@ own_piece (in_std p) = p
 own_piece (within prefix p) = p
 own_piece t = t
 
--- The name of a class under its tags: the piece of its name without them. Where it is itself the name of a constructor, its
+-- The name of a class under its tags: the piece of its name without them. If the name is itself that of a constructor, its
 -- tags are examined one by one.
 unfoldable pub base_tagged : Context → (of_structor : Bool) → (name : Term) → List (PartOf Item)
 base_tagged context true name = as_item base context name ∷ []
@@ -419,7 +421,7 @@ thunk_text (adjusting (non_virtual a)) = codes "non-virtual thunk to "
 thunk_text (adjusting (by_table a b)) = codes "virtual thunk to "
 thunk_text (covariant a b) = codes "covariant return thunk to "
 
--- t of a function within a transaction, n of one outside
+-- t for a function within a transaction, n for one outside
 unfoldable pub clone_text : (letter : ℕ) → List ℕ
 clone_text letter = elim (nat_eq letter 116) [ true ↦ codes "transaction clone for " | false ↦ codes "non-transaction clone for " ]
 
@@ -490,7 +492,7 @@ parts_in d context more t = more_parts context t
 parts_in d context (expand i) t = expand_parts context t i
 parts_in d context (declared i) t = declared_parts context t i
 
--- the parts without empty texts: no tree has such a part, whether it is a symbol's or not
+-- the parts without empty texts; so no tree has an empty text as a part, whether or not it is a symbol's tree
 unfoldable pub not_empty : List (PartOf Item) → List (PartOf Item)
 not_empty [] = []
 not_empty (text [] ∷ ps) = not_empty ps

@@ -12,7 +12,8 @@ unfoldable pub pack_count : Option Term → Term → ℕ
 pack_count None t = 0
 pack_count (Some arguments) t = or_none (pack_length arguments t)
 
--- what an argument adds to the weight of a parameter: a signature that declares the parameter is printed as its name
+-- what an argument adds to the weight of a parameter: a signature that declares the parameter is printed as the
+-- parameter's name
 unfoldable pub light : Term → (weight : ℕ) → ℕ
 light (declaring heads parameters) weight = 1
 light t weight = weight

@@ -21,12 +21,12 @@ unfoldable pub is_function_type : Term → Bool
 is_function_type (function_type c_linkage noexcept ref returned parameters) = true
 is_function_type _ = false
 
--- a type is a candidate once it's complete, unless it's builtin, an abbreviation or what a substitution denotes, which are
+-- a type is a candidate once it's complete, unless it's builtin, an abbreviation or what a substitution denotes; these are
 -- marked as listed
 unfoldable pub with_type : Around → Value → State → State
 with_type around v state = elim (is_listed v) [ true ↦ state | false ↦ appended around (tree_of v) state ]
 
--- under qualifiers written before it a function type is no candidate
+-- a function type is no candidate under qualifiers written before it
 unfoldable pub with_unqualified : Around → Value → State → State
 with_unqualified around v state = elim (is_function_type (tree_of v)) [ true ↦ state | false ↦ with_type around v state ]
 
@@ -36,7 +36,7 @@ with_prefix around state = elim (prefix_listed around.prefix) [ true ↦ state |
 
 -- ## References
 
--- A tree that holds packs is under an expansion, and its packs have the length of the earlier ones there.
+-- A tree that holds packs is under an expansion, and its packs have the length of the earlier packs in the expansion.
 unfoldable pub with_packs : ℕ → Bool → Option ℕ → State → Result State Refusal
 with_packs place in_expansion None state = Ok state
 with_packs place false (Some m) state = Err (BadReference place)

@@ -1,7 +1,7 @@
 -- The reading of the wide grammar (ABI 5.1.8, 5.1.10). It differs from that of the ABI's grammar in four points: the parameters
 -- of a lambda's signature are the lambda's own; a substitution may name a tree whose parameters had another meaning where it was
--- made; there are names with an M, inherited constructors and concepts with arguments, which compilers count differently; and
--- before a component of a nested name a substitution names a module.
+-- made; there are names with an M, inherited constructors and concepts with arguments, which compilers count differently; and a
+-- substitution before a component of a nested name names a module.
 use Rattle.std.specs.Prelude.{ℕ, zero, suc, ◌-◌, ◌^◌, List, [], ◌∷◌, Bool, true, false, not, ◌||◌, ◌&&◌, nat_eq, nat_lt, cond, slice_get, Option, Some, None, Result, Ok, Err}
 use Rattle.sym_core.specs.declared.refusal.Refusal.{Refusal}
 use Rattle.sym_core.specs.declared.refusal.Refusal.TheVariants.{BadReference}
@@ -21,7 +21,7 @@ use Rattle.cpp_grammar.specs.Unfolding.{opening, close, production_at, byte_of, 
 
 -- ## Parameters
 
--- the number of a lambda's own parameter: one of more than 32 bits is the greatest of 32 bits
+-- the number of a lambda's own parameter: a number of more than 32 bits becomes the greatest one of 32 bits
 unfoldable pub generic_number : ℕ → ℕ
 generic_number k = cond (nat_lt k (2 ^ 32)) k (2 ^ 32 - 1)
 
@@ -52,7 +52,7 @@ in_constraint_of around = record { scope = None; encoding = around.encoding; in_
 unfoldable pub is_unseen : Around → Bool
 is_unseen around = around.in_lambda && is_in_constraint around.showing
 
--- An encoding that a literal denotes there (L _Z <encoding> E) isn't looked up either.
+-- An encoding that a literal in a constraint denotes (L _Z <encoding> E) isn't looked up either.
 unfoldable pub in_literal : Around → Around
 in_literal around = elim (is_unseen around) [
   | true ↦ record { scope = around.scope; encoding = around.encoding; in_lambda = around.in_lambda; in_expansion = around.in_expansion; prefix = around.prefix; showing = at_literal }
@@ -69,8 +69,8 @@ passed_over place = record { scope = None; encoding = place; in_lambda = true; i
 unfoldable pub name_around : Around → (place : ℕ) → Around
 name_around around place = elim (is_passed_over around) [ true ↦ passed_over place | false ↦ in_name place ]
 
--- What surrounds an encoding's types: if it is passed over and its name has free parameters, they may have free ones, too;
--- otherwise the name is their scope.
+-- What surrounds an encoding's types: if the encoding is passed over and its name has free parameters, the types may have
+-- free ones, too; otherwise the name is their scope.
 unfoldable pub types_around : Around → (place : ℕ) → (name : Term) → Around
 types_around around place name = elim (is_passed_over around && is_open name) [ true ↦ passed_over place | false ↦ in_types place name ]
 
@@ -92,13 +92,13 @@ as_generic_lambda v = v
 
 -- ## Names with an M
 
--- What is in the initializer of a variable or of a data member has a prefix: the name of the variable or member, with an M after
--- it. Compilers since GCC 13 and Clang 13 count the name, with its M, among the candidates, and earlier ones don't count it; a
--- symbol doesn't say which one made it. So there are two lists: the longer one has what some compiler counts, and the shorter one
--- what all of them count.
+-- An entity in the initializer of a variable or of a data member has a prefix: the name of the variable or member, with an M
+-- after it. Compilers since GCC 13 and Clang 13 count the name, with its M, among the candidates, and earlier ones don't count
+-- it; a symbol doesn't say which one made it. So there are two lists: the longer one has what some compiler counts, and the
+-- shorter one what all of them count.
 
--- The name before an M became a candidate as a prefix, unless a number names it or it's a parameter. With its M it takes the
--- place of that candidate, which no compiler counts.
+-- The name before an M became a candidate as a prefix, unless a number names it or it's a parameter. The name with its M
+-- takes the place of that candidate, which no compiler counts.
 unfoldable pub with_holder : Around → Term → State → State
 with_holder around t state = appended_by by_newer around t (elim (prefix_listed around.prefix) [ true ↦ appended around t state | false ↦ state ])
 
@@ -106,8 +106,8 @@ unfoldable pub is_instance : Term → Bool
 is_instance (instance template arguments) = true
 is_instance _ = false
 
--- After arguments an M is refused: compilers also differ in whether they count the name of the arguments' template, and by then
--- the arguments, which may name candidates by number, have been read.
+-- An M after arguments is refused: compilers also differ in whether they count the name of the arguments' template. By then the
+-- arguments, which may name candidates by number, have been read.
 unfoldable pub holder_so_far : Around → (place : ℕ) → State → Continuation
 holder_so_far around place state = elim (is_instance (prefix_tree around.prefix)) [
   | true ↦ Err (BadReference place)
@@ -119,15 +119,15 @@ holder_so_far around place state = elim (is_instance (prefix_tree around.prefix)
 unfoldable pub counted_unless : (listed : Bool) → Counted → Around → Term → State → State
 counted_unless listed counted around t state = elim listed [ true ↦ state | false ↦ appended_by counted around t state ]
 
--- GCC alone counts the base class after CI, unless a number names it. The base class is counted before the constructor's own
--- arguments, and otherwise once it's complete.
+-- GCC alone counts the base class after CI, unless a number names it. It is counted before the constructor's own arguments
+-- if there are some, and otherwise once it's complete.
 unfoldable pub counted_base : Around → (base : Value) → State → State
 counted_base around (pair letter own base) state = state
 counted_base around base state = counted_unless (is_listed base) by_gcc around (tree_of base) state
 
--- Before a constructor's own arguments GCC alone counts the base class, and then the constructor. Before the arguments of a concept
--- Clang alone counts its name. A base class is nested or has arguments there. The name of a concept, unless a number names it, is one
--- piece; one in N has another production.
+-- GCC alone counts the base class, and then the constructor, before the constructor's own arguments. Clang alone counts the name of a
+-- concept before the concept's arguments. Here a base class is nested or has arguments. The name of a concept, unless a number names
+-- it, is one piece here; a concept in N has another production.
 unfoldable pub counted_held : Term → Counted
 counted_held (within prefix last) = by_gcc
 counted_held (instance template arguments) = by_gcc
@@ -163,7 +163,7 @@ is_before_holder (c ∷ cs) = is_by_newer c.counted
 unfoldable pub is_in_list : (is_shorter : Bool) → Candidate → List Candidate → Bool
 is_in_list is_shorter c cs = not (is_before_holder cs) && (not is_shorter || is_by_all c.counted)
 
--- the place among all candidates of the one that has this number in the longer or in the shorter list
+-- the place, among all candidates, of the candidate that has this number in the longer or in the shorter list
 unfoldable pub place_in : (is_shorter : Bool) → List Candidate → (number : ℕ) → ℕ
 place_in is_shorter [] number = number
 place_in is_shorter (c ∷ cs) number = elim (is_in_list is_shorter c cs) [
@@ -175,7 +175,8 @@ place_in is_shorter (c ∷ cs) number = elim (is_in_list is_shorter c cs) [
 unfoldable pub named_in : (is_shorter : Bool) → List Candidate → (number : ℕ) → Option Candidate
 named_in is_shorter cs number = slice_get cs (place_in is_shorter cs number)
 
--- If two candidates are counted by different compilers, neither by all, no compiler may have the longer list.
+-- If two candidates are counted by different compilers, neither by all, there may be no compiler that has the longer
+-- list.
 unfoldable pub joined : Counted → Counted → Counted
 joined by_all counted = counted
 joined by_newer by_newer = by_newer
@@ -233,7 +234,7 @@ unfoldable pub head_at : (place : ℕ) → Expected → ℕ
 head_at place (item_at at head) = elim (nat_eq at place) [ true ↦ head | false ↦ 0 ]
 head_at place _ = 0
 
--- Two heads may be those of one tree, unless both are known, and differ.
+-- Two heads may be those of one tree unless both are known and differ.
 unfoldable pub may_be : (head other : ℕ) → Bool
 may_be head other = (nat_eq head 0 || nat_eq other 0) || nat_eq head other
 
@@ -250,7 +251,7 @@ unfoldable pub can_be_named : Expected → (place : ℕ) → Option Candidate �
 can_be_named expected place None = false
 can_be_named expected place (Some c) = fits (is_prefix_at place expected) (is_qualified_at place expected) c.tree
 
--- whether a list has a candidate for the S at this place that may have the head that is expected there
+-- whether a list has a candidate for the S at this place, and the candidate may have the head that is expected there
 unfoldable pub has_head : Expected → (place : ℕ) → Option Candidate → Bool
 has_head expected place None = false
 has_head expected place (Some c) = may_be (head_at place expected) (head_of c.tree)
@@ -259,7 +260,7 @@ has_head expected place (Some c) = may_be (head_at place expected) (head_of c.tr
 
 -- A lambda with an M before it is in the initializer of a variable or of a data member. A name within the lambda is that of one
 -- of its functions. If a type of that function is an S alone, the function is the lambda's operator(), or calls it, and has the
--- types of the lambda's signature, in their order; after a return type, if the lambda has parameters of its own.
+-- types of the lambda's signature, in their order. A return type precedes these if the lambda has parameters of its own.
 
 unfoldable pub first_head : (types : Term) → ℕ
 first_head (list t rest) = head_of t
@@ -269,7 +270,7 @@ unfoldable pub rest_of : (types : Term) → Term
 rest_of (list t rest) = rest
 rest_of _ = nil
 
--- the heads of the first four of these types, of the encoding that begins here
+-- the heads of the first four of these types, for the encoding that begins here
 unfoldable pub heads_of : (place : ℕ) → (types : Term) → Awaited
 heads_of place types = record {
   encoding = place;
@@ -326,7 +327,7 @@ expecting_item around place counting = elim ((around.in_lambda || not counting.a
 
 -- ## The list that remains
 
--- If both lists remain and only one has a candidate that fits, that list remains. If one list remains, it stays if its
+-- If both lists remain and only one has a candidate that fits, that list remains. A single remaining list stays if its
 -- candidate fits.
 unfoldable pub left : Lists → (longer_fits shorter_fits : Bool) → Lists
 left both_lists true false = longer_list
@@ -335,12 +336,13 @@ left longer_list true shorter_fits = longer_list
 left shorter_list longer_fits true = shorter_list
 left _ longer_fits shorter_fits = no_list
 
--- If the candidates of both fit by their forms, their heads decide.
+-- If the candidates of both lists fit by their forms, their heads decide.
 unfoldable pub left_by : Lists → (longer_fits shorter_fits longer_has shorter_has : Bool) → Lists
 left_by both_lists true true longer_has shorter_has = left both_lists longer_has shorter_has
 left_by lists longer_fits shorter_fits longer_has shorter_has = left lists longer_fits shorter_fits
 
--- the lists that remain after the S at this place with this number, if the two lists name different candidates by it
+-- the lists that remain after the S at this place with this number, if the two lists have different candidates for the
+-- number
 unfoldable pub left_at : (place number : ℕ) → State → Lists
 left_at place number state = elim (is_by_some (counted_so_far by_all state.candidates)) [
   | true ↦ no_list
@@ -383,8 +385,8 @@ in_scope around place t k state = elim around.scope [
   ]
 ]
 
--- A tree with several free parameters, this being the greatest number: the scope here has an argument for each, and no pack among
--- its arguments.
+-- A tree with several free parameters, where this is the greatest number: the scope here has an argument for each, and no pack
+-- among its arguments.
 unfoldable pub under_scope : Around → (place : ℕ) → Term → (greatest : ℕ) → State → Result (Found Value State) Refusal
 under_scope around place t m state = elim around.scope [
   | None ↦ Err (BadReference place)
@@ -416,13 +418,13 @@ substituted_wide around place (Some c) state = elim (is_foreign around c) [
   | false ↦ substituted around place (Some c) state
 ]
 
--- what a number names by the list that remains
+-- what a number names in the list that remains
 unfoldable pub listed_by : Lists → Around → (place number : ℕ) → State → Result (Found Value State) Refusal
 listed_by longer_list around place number state = substituted_wide around place (named_in false state.candidates number) state
 listed_by shorter_list around place number state = substituted_wide around place (named_in true state.candidates number) state
 listed_by _ around place number state = Err (BadReference place)
 
--- A substitution names the candidate that its number names by both lists, or by the one that remains.
+-- A substitution names the candidate that its number names in both lists, or in the one that remains.
 unfoldable pub numbered : Around → (place : ℕ) → (number : ℕ) → State → Result (Found Value State) Refusal
 numbered around place number state = elim (nat_eq (place_in false state.candidates number) (place_in true state.candidates number)) [
   | true ↦ substituted_wide around place (named_in false state.candidates number) state
@@ -445,8 +447,8 @@ noting counting state = elim (is_by_all (counted_so_far by_all state.candidates)
   | false ↦ record state { counting = counting }
 ]
 
--- What is noted where a production begins: the S of a nested name is the byte before; a type under qualifiers, a type of an
--- encoding or of a signature, or a further piece of a name begins here; or a nested name ends here.
+-- What is noted where a production begins: the S of a nested name is the byte before this place; a type under qualifiers, a
+-- type of an encoding or of a signature, or a further piece of a name begins here; or a nested name ends here.
 unfoldable pub opening_wide : Production → Around → Forest → (place : ℕ) → State → Result State Refusal
 opening_wide Production.NestTemplate around parts place state = Ok (noting (expecting (prefix_at (place - 1)) state.counting) state)
 opening_wide Production.QualifiedPlain around parts place state = Ok (noting (expecting (qualified_at place) state.counting) state)

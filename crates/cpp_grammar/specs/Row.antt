@@ -15,14 +15,14 @@ pub data Source : Type 0 where
   text_at : ℕ → Source
   -- a text of digits without zeros in front
   digits_at : ℕ → Source
-  -- the code of a builtin type: these bytes, and the one that the production takes
+  -- the code of a builtin type: these bytes, and the byte that the production takes
   code : (front : List ℕ) → Source
   taken : Source
   fixed : ℕ → Source
   letter_at : ℕ → Source
-  -- the letter of a part, or the byte that the production takes, where the part has none
+  -- the letter of a part, or the byte that the production takes if the part has no letter
   letter_or_taken : ℕ → Source
-  -- the letter of a part, or this one, where the part has none
+  -- the letter of a part, or this letter if the part has none
   letter_or : ℕ → (other : ℕ) → Source
   -- the letters of the operator in a part
   operator_first_at : ℕ → Source
@@ -100,7 +100,7 @@ pub data Form : Type 0 where
   -- what a part denotes; and the same tree, which is a candidate by now
   handed : ℕ → Form
   finished : ℕ → Form
-  -- what a part denotes, or what another part does, where the first is absent
+  -- what a part denotes, or what another part denotes if the first is absent
   either : (part other : ℕ) → Form
   -- the byte that the production takes
   the_byte : Form
@@ -111,10 +111,11 @@ pub data Form : Type 0 where
   a_pair : (letter : Source) → (left right : Made) → Form
   cell : (first rest : ℕ) → Form
   item : (first rest : ℕ) → Form
-  -- the first part with the arguments in the second, if that is present; a tagged one takes the place of another name
+  -- the first part with the arguments in the second, if that is present; likewise a tagged name, which takes the place
+  -- of another name
   a_name : Listing → Form
   in_place : Form
-  -- its own code makes at most this many nodes
+  -- what the production's own code denotes; that code makes at most this many nodes
   own : Own → (most : ℕ) → Form
 
 -- what surrounds a part
@@ -127,7 +128,7 @@ pub data Where : Type 0 where
   under_it : Where
   -- where no name begins yet
   nameless : Where
-  -- in a name: the name so far is the tree in this part, or the one that it was before
+  -- in a name: the name so far is the tree in this part, or stays what it was before
   after_part : ℕ → Listing → Where
   after_the_name : Where
 
@@ -136,8 +137,8 @@ pub data Gain : Type 0 where
   nothing : Gain
   -- the name so far
   the_prefix : Gain
-  -- the type in a part, unless it is listed; and likewise unless it is a function type, which is no candidate where qualifiers
-  -- follow it
+  -- the type in a part, unless it is listed; and likewise unless it is a function type, which is no candidate under qualifiers
+  -- written before it
   type_of : ℕ → Gain
   unqualified_of : ℕ → Gain
   -- what the production denotes
@@ -149,7 +150,8 @@ pub data Action : Type 0 where
   goes : Gain → Where → Action
   -- the first part becomes this tree, which may be the name so far, and may become a candidate
   becomes : Made → (is_in is_name is_candidate : Bool) → Action
-  -- the first part is the number of a parameter, which is tested at the place, or at the T before it; it may be the name so far
+  -- the first part is the number of a parameter, which is tested at the place, or at the T before it; the parameter may be the
+  -- name so far
   tests : (after_t is_name : Bool) → Action
   -- the first part is an M after the name so far
   holds : Action
@@ -157,14 +159,14 @@ pub data Action : Type 0 where
   unread : Action
 
 pub record Row : Type 0 where
-  -- before each part from the first one on, and before each of the others
+  -- what is done before each of the first parts, and before each of the others
   pub before : List Action
   pub onward : Action
   pub form : Form
   pub gain : Gain
-  -- at the end the packs are those of the surroundings again
+  -- the packs of the surroundings are restored at the end
   pub restores_packs : Bool
-  -- the number in its last token has 64 bits: this is tested first
+  -- the number in the production's last token has 64 bits: this is tested first
   pub tests_number : Bool
 
 -- ## Counts

@@ -1,5 +1,5 @@
 -- What the trees of C++ symbols are like: their arguments, free parameters and packs. The scope of an encoding is the list of
--- arguments that its own name ends in. It holds only for the encoding's types.
+-- arguments that its own name ends in. The scope holds only for the encoding's types.
 use Rattle.std.specs.Prelude.{ℕ, zero, suc, Bool, true, false, not, ◌||◌, nat_eq, max, Option, Some, None}
 use Rattle.cpp_grammar.specs.Term.{Term, alone, in_std, within, instance, local, holder, tagged, of_default, parameter, constructor, destructor, inheriting, lambda, conversion, pointer, lvalue, rvalue, array, constrained, bounded, member_pointer, function_type, qualified, vector, complex, expansion, integer, pack, list, absent, decltype, operation, enumeration, bindings, declaring}
 
@@ -21,7 +21,7 @@ arguments_of (local encoding entity discriminator) = arguments_of entity
 arguments_of (of_default digits entity) = arguments_of entity
 arguments_of _ = None
 
--- what precedes those arguments
+-- what precedes the arguments that a name ends in
 unfoldable pub before_arguments : Term → Term
 before_arguments (instance template arguments) = template
 before_arguments (local encoding entity discriminator) = before_arguments entity
@@ -41,7 +41,7 @@ unfoldable pub without_tags : Term → Term
 without_tags (tagged of_structor name tag) = without_tags name
 without_tags name = name
 
--- A function's first item is its return type where its name ends in arguments, and what precedes them isn't a constructor or a
+-- A function's first item is its return type if its name ends in arguments and what precedes them isn't a constructor or a
 -- destructor.
 unfoldable pub has_return_type : Term → Bool
 has_return_type name = elim (arguments_of name) [ None ↦ false | Some arguments ↦ not (is_structor (before_arguments name)) ]

@@ -17,8 +17,8 @@ unfoldable pub parameters : Term → Term
 parameters (list first rest) = elim (is_void first && is_nil rest) [ true ↦ nil | false ↦ list first rest ]
 parameters t = t
 
--- The declaration of one more of a lambda's parameters, before its first type: it is the first value's tree, and the second value
--- is that type, or a pair of that type and the list of the other declarations.
+-- The declaration of one more of a lambda's parameters, before the lambda's first type. The declaration is the first value's
+-- tree; the second value is that type, or a pair of that type and the list of the other declarations.
 unfoldable pub declared_first : Value → Value → Value
 declared_first head (pair key first heads) = pair key first (list (tree_of head) heads)
 declared_first head first = pair 84 (tree_of first) (list (tree_of head) nil)
@@ -83,8 +83,8 @@ unfoldable pub operation_or_address : (is_address : Bool) → (first second : �
 operation_or_address true first second (encoding_literal e) right = address_of e
 operation_or_address is_address first second left right = operation first second left right
 
--- The operation of the operator with this first letter, this second letter and these operands. An existing expression is
--- itself.
+-- The operation of the operator with this first letter, this second letter and these operands. A value that is already
+-- an expression stays as it is.
 unfoldable pub operation_by : (first : ℕ) → Value → Value
 operation_by first (pair second left right) = tree (operation_or_address (is_code 97 100 first second) first second left right) true
 operation_by first v = v

@@ -18,7 +18,7 @@ use Rattle.cpp_grammar.specs.Follow.{after_ranges, rank, height}
 use Rattle.cpp_grammar.specs.Before.{alternatives_before}
 use Rattle.cpp_grammar.specs.Wide.{wide_alternatives}
 
--- symbols filled up to this many; those that are added don't count
+-- symbols padded up to this length; the added ones don't count
 unfoldable pub padded : ℕ → List Sym → List Sym
 padded zero symbols = []
 padded (suc n) [] = Byte 0 ∷ padded n []
@@ -62,7 +62,7 @@ sheet = map (sheet_with alternatives) kinds
 unfoldable pub abi : Table
 abi = table_of blank sheet Cpp
 
--- the symbols of its rules from a place of the code's list on
+-- the symbols of the table's rules, from a place in the code's list on
 abbrev pub abi_listed : ℕ → List Sym
 abi_listed place = listed_in SYMBOLS place
 

@@ -1,6 +1,6 @@
--- From the shape of a C++ symbol to the tree that it denotes: each substitution is replaced by the tree that it names. The
--- productions are visited in the order of their bytes. The surroundings of a part are inherited; the candidates are threaded
--- through.
+-- The unfolding of a C++ symbol's shape to the tree that the symbol denotes: each substitution is replaced by the tree that
+-- it names. The productions are visited in the order of their bytes. The surroundings of a part are inherited; the
+-- candidates are threaded through.
 use Rattle.std.specs.Prelude.{ℕ, ◌-◌, ◌^◌, List, [], ◌∷◌, true, false, nat_lt, slice_get, Some, None, Result, Ok, Err}
 use Rattle.sym_core.specs.declared.refusal.Refusal.{Refusal}
 use Rattle.sym_core.specs.declared.refusal.Refusal.TheVariants.{BadReference, BadValue}
@@ -37,8 +37,8 @@ opening p parts place state = elim (row_of p).tests_number [ true ↦ number_tes
 
 -- ## After the parts of a production
 
--- The state after a production that began in another: types become candidates here, and after an expansion the length of the
--- packs around it holds again.
+-- The state after a production that began in another state: types become candidates here, and the length of the packs
+-- around an expansion holds again after the expansion.
 unfoldable pub behind : Production → (byte : ℕ) → Around → (began : State) → List Value → State → State
 unfolding row_of state_after gained
 behind p byte around began vs state = state_after (row_of p) around began (meaning p byte around vs) vs state
@@ -63,7 +63,7 @@ unfoldable pub byte_of : List ℕ → ℕ
 byte_of [] = 0
 byte_of (byte ∷ rest) = byte
 
--- C++ as a language: each part has one value, also one with no row.
+-- C++ as a language: each part, even one with no row, has one value.
 unfoldable pub cpp : Reading Value State Around
 cpp = record {
   rowless = nothing_there ∷ [];

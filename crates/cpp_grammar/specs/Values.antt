@@ -4,8 +4,8 @@ use Rattle.sym_core.specs.declared.NumberKind.TheVariants.{Decimal}
 use Rattle.sym_core.specs.Value.{counted_value}
 use Rattle.cpp_grammar.specs.Term.{Qualifiers, RefQualifier, any_value, lvalue_only, rvalue_only, explicit_object, Signed, Adjustment, non_virtual, Term, destructor, absent}
 
--- By which compilers a candidate is counted: by all, by those since GCC 13 and Clang 13, by GCC alone, by Clang alone, or by some
--- that the reading doesn't know.
+-- Which compilers count a candidate: all, those since GCC 13 and Clang 13, GCC alone, Clang alone, or some that the reading
+-- doesn't know.
 pub data Counted : Type 0 where
   by_all : Counted
   by_newer : Counted
@@ -13,8 +13,8 @@ pub data Counted : Type 0 where
   by_clang : Counted
   by_some : Counted
 
--- a tree that a substitution may name, where the encoding that it was made in begins, whether it was made in a lambda's signature
--- of that encoding, or in the declaration of an argument, and by which compilers it's counted
+-- a tree that a substitution may name; where the encoding that it was made in begins; whether it was made in a lambda's signature
+-- of that encoding, or in the declaration of an argument; and which compilers count it
 pub record Candidate : Type 0 where
   pub tree : Term
   pub encoding : ℕ
@@ -29,16 +29,16 @@ pub data Lists : Type 0 where
   shorter_list : Lists
   no_list : Lists
 
--- the place of the last S with something known about what it names: it begins a nested name, or it is a type under qualifiers, or
--- a type, with this head, of a lambda's function
+-- the place of the last S with something known about what it names: the S begins a nested name, is a type under qualifiers, or is
+-- a type of a lambda's function, with this head
 pub data Expected : Type 0 where
   anything : Expected
   prefix_at : (place : ℕ) → Expected
   qualified_at : (place : ℕ) → Expected
   item_at : (place head : ℕ) → Expected
 
--- The heads of the next four types of the encoding that begins at this place, and whether its name goes on after the lambda that
--- has these types. A head is the number of a tree's form, and 0 if the form is unknown.
+-- The heads of the next four types of the encoding that begins at this place, and whether the encoding's name continues after
+-- the lambda that has these types. A head is the number of a tree's form, and 0 if the form is unknown.
 pub record Awaited : Type 0 where
   pub encoding : ℕ
   pub is_called : Bool
@@ -79,7 +79,8 @@ unfoldable pub prefix_listed : Prefix → Bool
 prefix_listed outermost = true
 prefix_listed (behind t listed) = listed
 
--- Nothing in a constraint is shown, and nothing in it is looked up; there an encoding may begin that a literal denotes.
+-- Whether a part is shown. Nothing in a constraint is shown or looked up, nor is an encoding that a literal in a
+-- constraint denotes.
 pub data Showing : Type 0 where
   shown : Showing
   in_constraint : Showing
@@ -93,9 +94,9 @@ unfoldable pub is_at_literal : Showing → Bool
 is_at_literal at_literal = true
 is_at_literal _ = false
 
--- What surrounds a part: the arguments that parameters name there, the place where the innermost encoding begins, whether the
--- part is in a lambda's signature of that encoding, in the declaration of an argument or in a constraint, whether it is under an
--- expansion, the name so far, and whether the part is shown.
+-- What surrounds a part: the arguments that parameters name there; the place where the innermost encoding begins; whether the
+-- part is in a lambda's signature of that encoding, in the declaration of an argument or in a constraint; whether it is under an
+-- expansion; the name so far; and whether the part is shown.
 pub record Around : Type 0 where
   pub scope : Option Term
   pub encoding : ℕ
@@ -117,8 +118,8 @@ pub data Value : Type 0 where
   piece : Term → Value
   -- the name of an encoding, with the qualifiers that belong to the encoding
   named : Term → Qualifiers → RefQualifier → Value
-  -- A letter and two trees; the second may be absent. They are the operands of an operator with this second letter, or
-  -- arguments with the name before them: the name of an inherited constructor's base class, or of this concept.
+  -- A letter and two trees; the second tree may be absent. The trees are the operands of an operator with this second
+  -- letter, or arguments with the name before them: the name of an inherited constructor's base class, or of a concept.
   pair : (second : ℕ) → (left right : Term) → Value
   -- the parameters of a function type, and its mark
   signature : Term → RefQualifier → Value

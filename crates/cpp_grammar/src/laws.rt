@@ -62,8 +62,8 @@ pub fn no_first_packs_in_abi()
 {}
 
 /// The wide grammar's reading differs from the ABI's reading only where the ABI's reading refuses a
-/// shape: a lambda's signature may name the lambda's own parameters, a substitution may name a
-/// module, or a tree whose parameters had another meaning where it was made, and a name may have an
+/// shape: a lambda's signature may name the lambda's own parameters; a substitution may name a
+/// module, or a tree whose parameters had another meaning where it was made; and a name may have an
 /// `M`. A shape that denotes a tree by the ABI's reading denotes the same tree by the wide reading.
 pub fn abi_meanings_stay()
     ensures { (shape : Tree) (t : Term) → IsTree wide (Kind 0) shape → unfold_cpp shape ≡ Ok t → unfold_wide shape ≡ Ok t }

@@ -1240,7 +1240,7 @@ pub fn rule(kind: u16, byte: u8) -> Option<Rule>
     }
 }
 
-/// The place of its first symbol.
+/// The place of the first symbol of the rule that a kind takes at a byte.
 #[inline]
 pub fn place(kind: u16, byte: u8) -> u32
     requires { kind < abi.kinds }

@@ -1,4 +1,4 @@
--- The parameters that lambdas declare: their names, and what a lambda prints that declares parameters.
+-- The parameters that lambdas declare: their names, and what a lambda that declares parameters prints.
 use Rattle.cpp_layout.proofs.Basics.{◌≡◌, refl, sym, ap, subst, ◌∙◌, ℕ, zero, suc, ◌+◌, ◌^◌, ◌<◌, ◌≤◌, List, [], ◌∷◌, ◌++◌, Bool, true, false, nat_lt, Option, None, Some, decimal, append-nil, arith, true≢false, eq-eqb, ne_eqb, le-ltb, lt-ltb, Detail, PartOf, text, sub, letter_name, as_item, says, list_part, comma_before, generic_parts, piece_parts, declared_letter, front_of_name, name_of_own, own_name, parameter_parts, declared_rest, declared_parts, element, Term, reargued, reargued_none, reargued_twice, element_reargued, trees, tree_at, tree_of, tree_if_there, is_again, Node, Thunk, fixed_text, BLANK, BRACE, COMMA, DECLARING, RIGHT_NUMBER, TYPES, Context, ReadSymbol, table_of, form_of, context_of, shown_in, printed_tree, item_in, text_if}
 use Rattle.cpp_grammar.specs.Items as heads
 use Rattle.cpp_term.specs.Items as items
@@ -80,7 +80,7 @@ pub generic-plain : (s : List ℕ) (us : List Thunk) (ts : List Term) (given : O
 generic-plain s us ts given n flat c number t u v own same is other =
     ap (λ x. piece_parts c (term.lambda x number)) (reargued_none t) ∙ generic-own s us ts given n flat t (sym own ∙ sym same ∙ is) c number other
 
--- the name of a pack of parameters begins by the letter of the declaration within the pack
+-- the letter of the declaration within a pack of parameters gives what the pack's name begins with
 pub front-pack : (a b : ℕ) (x y : Term) → b ≡ 112 → letter_name (declared_letter x) ≡ front_of_name (term.operation a b x y)
 unfolding front_of_name
 front-pack a b x y is = rw (front_of_name, eq-eqb b 112 is) refl

@@ -1,4 +1,4 @@
--- The head of a type, from what is noted of it.
+-- The head of a type, from what is noted of the type.
 use Rattle.cpp_layout.proofs.Basics.{◌≡◌, ℕ, ◌<◌, length, Option, None, sym, ap, ◌∙◌, reargued, reargued_none, Table, IsTable, class_is, entry_at, head_of, tree_at, tree_if_there, trees}
 use Rattle.cpp_term.specs.Items as items
 use Rattle.cpp_tree.specs.declared.node.Head.{Head}

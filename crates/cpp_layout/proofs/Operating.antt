@@ -1,4 +1,4 @@
--- The operations of code are those of the table.
+-- The code's operations are those of the table.
 use Rattle.cpp_layout.proofs.Basics.{◌≡◌, refl, ap, ◌∙◌, subst, arith, append-nil, ℕ, zero, suc, ◌+◌, ◌*◌, ◌<◌, ◌≤◌, List, [], ◌∷◌, ◌++◌, length, drop, get_or, slice_get, Bool, true, false, nat_eq, nat_lt, ◌&&◌, ◌||◌, Option, Some, None, inl, inr, nat_le, and_parts, or_parts, eq-eqb, ne_eqb, ltb-true, eqb_tells, slice_get_within, same_bytes, builtin_texts, operator_texts, abbreviation_texts, special_texts, named_special_texts, literal_endings, printed, no_operation, PartOf, Term, text_part, as_item, says, precedence_of, operand_parts, operation_parts, most_of, fixed_text, COUNT, LEFT, RIGHT, text_if}
 use Rattle.cpp_grammar.specs.Operations as table
 use Rattle.cpp_grammar.specs.declared.operand.Operand.{Operand}
@@ -16,7 +16,7 @@ abbrev pub any_number : List table.Operation → ℕ → Bool
 any_number [] n = false
 any_number (o ∷ os) n = nat_eq n (number_of o.code) || any_number os n
 
--- the place of a code that no operation has is after the last operation
+-- a code that no operation has is placed after the last operation
 pub none_placed : (n : ℕ) (os : List table.Operation) → any_number os n ≡ false → length os ≡ place_of n os
 unfolding place_of
 none_placed n [] none = refl

@@ -12,7 +12,7 @@ prints y i below held table shows =
     let same = subst (Stacked (unshared_of y) (bytes_of_part y) (MayCome (table_of y)) below.items held.items) (sym (printed-parts (parts i.ctx.detail) rank (ranks_fall i.ctx.detail) (item_of (table_of y) i))) shows.stacked in
     record { added = same.added; is = same.is; all = λ k e less. (table, same.all k e less); joined = same.joined }
 
--- a list that is refilled with its reverse is its reverse
+-- refilling a list with its reverse gives the reverse
 turned : {X : Type 0} (old new : List X) → new ≡ reverse old → refill (length old) old new ≡ reverse old
 turned {X} old new r =
     let same : length new ≡ length old = ap (λ (xs : List X). length xs) r ∙ length-reverse old in

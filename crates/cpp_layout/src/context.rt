@@ -44,8 +44,7 @@ impl Context {
         }
     }
 
-    /// The context of an encoding's types: it has no index, and its argument is the one that the word `under`
-    /// names, if it names one.
+    /// The context of an encoding's types: it has no index, and its argument is the one that the word `under` names, if there is one.
     pub fn of_types(detail: Detail, under: u32) -> Context
         ensures { result ≡ record { index = None; detail = detail; argument = under_kept under } }
     {
@@ -56,7 +55,7 @@ impl Context {
         }
     }
 
-    /// A number that tells contexts apart by the argument, and by the index if that is below 65,535.
+    /// A number that tells contexts apart by the argument, and by the index if the index is below 65,535.
     pub(crate) fn number(self) -> u64 {
         number_of(self.index).wrapping_add(number_of(self.argument) << 16)
     }

@@ -38,7 +38,7 @@ impl Symbol {
         }
     }
 
-    /// The left parts of a template argument that is no type and no name.
+    /// The left parts of a template argument that is neither a type nor a name.
     #[inline(always)]
     fn fill_left_argument<S: PartList<Context>>(
         &self,
@@ -78,7 +78,7 @@ impl Symbol {
         }
     }
 
-    /// The left parts of a type that is no name.
+    /// The left parts of a type that isn't a name.
     #[inline(always)]
     fn fill_left_type<S: PartList<Context>>(
         &self,
@@ -156,7 +156,7 @@ impl Symbol {
         }
     }
 
-    /// The left parts of a node. Other forms, in which the node prints the same, call this.
+    /// The left parts of a node. Other forms in which the node prints the same call this function.
     fn fill_as_left<S: PartList<Context>>(&self, parts: &mut S, node: u32, ctx: Context)
         requires context { IsAliasBelow (length self.now.table.nodes) ctx.argument }
         requires own { is_again (entry_at self.now.table.nodes node).node ≡ false }

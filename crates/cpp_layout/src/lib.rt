@@ -1,4 +1,4 @@
-//! How C++ symbols are shown: their nodes as items, and the parts of these.
+//! How C++ symbols are shown: their nodes as items, and the parts of these items.
 #![tactic(auto)]
 
 mod arguments;

@@ -38,7 +38,7 @@ fn is_anonymous(name: &[u8]) -> bool
 }
 
 /// What an unnamed namespace is shown as.
-// It is out of line: with all fixed texts within it, the callers of `name_text` would be too large for the kit to inline.
+// This function is out of line: inlined, with all fixed texts, it would make the callers of `name_text` too large for the kit to inline.
 #[inline(never)]
 fn anonymous_text() -> &'static [u8]
     ensures { result.now ≡ fixed_text ANONYMOUS }
@@ -107,7 +107,7 @@ impl Symbol {
         parts.push_part(own(digits.as_bytes()));
     }
 
-    /// Adds the fixed text with a number, unless the number is that of no text.
+    /// Adds the fixed text with a number, unless the number is `NONE`.
     #[inline(always)]
     pub(crate) fn push_some<S: PartList<Context>>(&self, parts: &mut S, number: u16)
         requires room { 0 < S.room parts.old }
@@ -190,8 +190,8 @@ impl Symbol {
         }
     }
 
-    /// Adds a prefix. A variable whose initializer contains the piece is shown by its name, and an encoding around a local
-    /// entity without its return type.
+    /// Adds a prefix. A variable whose initializer contains the piece is shown by its name, and an encoding around a local entity is shown
+    /// without its return type.
     #[inline(always)]
     pub(crate) fn push_prefix<S: PartList<Context>>(&self, parts: &mut S, prefix: u32, ctx: Context)
         requires context { IsAliasBelow (length self.now.table.nodes) ctx.argument }
@@ -327,7 +327,8 @@ impl Symbol {
     }
 
     /// The entity of a local name. The default argument that contains it isn't shown.
-    // It is out of line: with it `fill_form` would be too large for the kit to inline, and would be called for each item.
+    // This function is out of line: if it were inlined, `fill_form` would be too large for the kit to inline, and would be called for each
+    // item.
     #[inline(never)]
     pub(crate) fn own_entity(&self, entity: u32, ctx: Context) -> Place
         requires table { IsTable (table_of self.now) }

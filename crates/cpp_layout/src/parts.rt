@@ -57,7 +57,7 @@ impl Symbol {
         parts.push_part(Part::Fixed(number));
     }
 
-    /// Adds one of two fixed texts, by a test.
+    /// Adds one of two fixed texts, depending on a test.
     #[inline(always)]
     pub(crate) fn push_either<S: PartList<Context>>(
         &self,
@@ -80,7 +80,7 @@ impl Symbol {
         }
     }
 
-    /// Adds a fixed text, by a test.
+    /// Adds a fixed text if a test holds.
     #[inline(always)]
     pub(crate) fn push_text_if<S: PartList<Context>>(&self, parts: &mut S, test: bool, number: u16)
         requires room { 0 < S.room parts.old }
@@ -94,7 +94,7 @@ impl Symbol {
         }
     }
 
-    /// Adds the fixed text with a number, unless the number is that of no text.
+    /// Adds the fixed text with a number, unless the number is `NONE`.
     #[inline(always)]
     pub(crate) fn push_own_text<S: PartList<Context>>(&self, parts: &mut S, number: u16)
         requires room { length (text_part (fixed_text number)) ≤ S.room parts.old }

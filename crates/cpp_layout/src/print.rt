@@ -163,12 +163,12 @@ impl Layout for Symbol {
         self.fill_form(stack, item.node, item.form, item.at, item.ctx);
     }
 
-    /// Instances of templates are noted: they come again as arguments, and their texts are long.
+    /// Names made of other names are noted: they recur as prefixes and as arguments, and take many entries to print.
     #[inline(always)]
     fn is_noted(&self, item: Item<Context>) -> bool
         requires may_come { MayBeAsked self.now (Part.Sub item) }
     {
-        item.form == form::LEFT && self.is_instance(item.node) && item.ctx.detail.has_arguments()
+        item.form == form::LEFT && self.is_composite(item.node)
     }
 
     #[inline(always)]
@@ -243,7 +243,7 @@ impl Symbol {
     ///
     /// # Errors
     ///
-    /// `TooLong` exactly where it costs more, `Memory` where a list couldn't grow.
+    /// `TooLong` exactly where the text costs more, `Memory` where a list couldn't grow.
     pub fn text(&self, limit: u32) -> Result<Vec<u8>, Refusal>
         ensures text { IfOk result (λ text. text.items ≡ text_of (shown_symbol Detail.Full self.now)) }
         ensures within { OnOk result (cost_of (shown_symbol Detail.Full self.now) ≤ limit) }
@@ -257,7 +257,7 @@ impl Symbol {
     ///
     /// # Errors
     ///
-    /// `TooLong` exactly where it costs more, `Memory` where a list couldn't grow.
+    /// `TooLong` exactly where the text costs more, `Memory` where a list couldn't grow.
     pub fn text_as(&self, limit: u32, detail: Detail) -> Result<Vec<u8>, Refusal>
         ensures text { IfOk result (λ text. text.items ≡ text_of (shown_symbol detail self.now)) }
         ensures within { OnOk result (cost_of (shown_symbol detail self.now) ≤ limit) }

@@ -22,7 +22,8 @@ const MOST_STARS: u32 = 512;
 /// The most pointers to constant types whose left parts are taken at once.
 const MOST_CONSTANT: u32 = 64;
 
-/// Where the text of pointers to constant types begins in the text of runs. Each has seven bytes.
+/// Where the text of pointers to constant types begins in the text of runs. Each pointer's text has
+/// seven bytes.
 const CONSTANT_STARS: u32 = 512;
 
 /// The text that each run's text is a slice of: stars, and then what pointers to constant types
@@ -43,8 +44,8 @@ struct Pointers {
 }
 
 impl Symbol {
-    /// The innermost of nested pointers, the outermost being `ty`, and how many are around it: at
-    /// most `most`, and none where `ty` is no pointer to a pointer.
+    /// The innermost of nested pointers whose outermost is `ty`, and how many pointers are around
+    /// it: at most `most`, and none if `ty` is no pointer to a pointer.
     // <type> ::= P <type>
     fn pointers(&self, ty: Placed, most: u32) -> Pointers
         requires table { IsTable (table_of self.now) }
@@ -70,7 +71,7 @@ impl Symbol {
         Pointers { levels, inner }
     }
 
-    /// The same for pointers to constant pointers. Each pointer is counted together with its const.
+    /// Likewise for pointers to constant pointers. Each pointer is counted together with its const.
     // <type> ::= P <type>
     // <type> ::= <CV-qualifiers> <type>
     fn constant_pointers(&self, ty: Placed, most: u32) -> Pointers

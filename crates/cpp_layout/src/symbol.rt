@@ -97,7 +97,8 @@ impl Symbol {
         }
     }
 
-    /// The lists of a symbol that is no longer needed: its bytes and its nodes. It takes no memory.
+    /// The lists of a symbol that is no longer needed: its bytes and its nodes. The call takes no
+    /// memory.
     pub fn into_lists(self) -> (Vec<u8>, Nodes)
         ensures bytes { result.0.items ≡ self.bytes }
         ensures nodes { result.1 ≡ self.table }
@@ -173,13 +174,15 @@ impl Symbol {
         }
     }
 
-    /// Whether a node is an instance of a template.
+    /// Whether a node is a name that is made of others: an instance of a template, a name within another or a local entity.
     #[inline(always)]
-    pub(crate) fn is_instance(&self, node: u32) -> bool
+    pub(crate) fn is_composite(&self, node: u32) -> bool
         requires { node < length self.now.table.nodes }
     {
         match self.nodes.entry(node).node {
             Node::Instance { .. } => true,
+            Node::Local { .. } => true,
+            Node::Within { .. } => true,
             _ => false,
         }
     }
@@ -228,7 +231,7 @@ impl Symbol {
         }
     }
 
-    /// A node's view and, with it, its parts, which are earlier nodes. The node is below `counts().nodes`. It takes no memory.
+    /// A node's view and, with it, its parts, which are earlier nodes. The node is below `counts().nodes`. The call takes no memory.
     pub fn view_at(&self, node: u32) -> NodeView
         requires { node < length self.now.table.nodes }
         ensures fields { seen_fields (table_of self.now) result ≡ fields_at (table_of self.now) node }
@@ -239,11 +242,11 @@ impl Symbol {
         view_of(&self.bytes, &self.nodes, self.nodes.node(&self.bytes, node))
     }
 
-    /// The view of a node, which is below `counts().nodes`. It takes no memory.
+    /// The view of a node, which is below `counts().nodes`. The call takes no memory.
     ///
-    /// A node's tree, in which a parameter is only its number, is made of its production, the numbers, the bytes of the
-    /// texts and the trees of the parts, and for `WIDE_THUNK` also of its offsets. Two nodes have equal trees exactly where
-    /// all of these are equal.
+    /// The tree of a node is made of the node's production, the numbers, the bytes of the texts and the trees of the parts, and for
+    /// `WIDE_THUNK` also of the offsets. A parameter in it is only its number. Two nodes have equal trees exactly if all of these are
+    /// equal.
     pub fn node(&self, node: u32) -> View
         requires { node < length self.now.table.nodes }
         ensures fields { IsView self.now.bytes result (fields_at (table_of self.now) node) }
@@ -254,8 +257,8 @@ impl Symbol {
         self.view_at(node).node
     }
 
-    /// A part of a node, counted from 0: an earlier node. The node is below `counts().nodes`, and the part below its
-    /// view's `parts`. It takes no memory.
+    /// A part of a node, counted from 0: an earlier node. The node is below `counts().nodes`, and the part below its view's `parts`. The
+    /// call takes no memory.
     pub fn part(&self, node: u32, k: u32) -> u32
         requires node { node < length self.now.table.nodes }
         requires part { k < length (fields_at (table_of self.now) node).parts }
@@ -265,8 +268,8 @@ impl Symbol {
         self.view_at(node).parts[k as usize]
     }
 
-    /// The offsets by which a node adjusts pointers, where it is a thunk: all four that a thunk may have. The node is below
-    /// `counts().nodes`. It takes no memory.
+    /// The offsets by which a node adjusts pointers, if the node is a thunk: all four that a thunk may have. The node is below
+    /// `counts().nodes`. The call takes no memory.
     pub fn call_offsets(&self, node: u32) -> Option<Thunk>
         requires { node < length self.now.table.nodes }
         ensures offsets { offsets_in self.now.bytes result ≡ offsets_of (plain_tree (table_of self.now) node) }
@@ -287,7 +290,7 @@ impl Symbol {
         *self.bytes.allocator()
     }
 
-    /// The bytes of a span within the symbol. Each text of a node's view is a span within it. It takes no memory.
+    /// The bytes of a span within the symbol. Each text of a node's view is a span within it. The call takes no memory.
     pub fn bytes_of(&self, span: Span) -> &[u8]
         requires { IsWithin span self.now.bytes }
         ensures { result.now ≡ bytes_at self.now.bytes span }
@@ -466,8 +469,8 @@ impl Symbol {
         }
     }
 
-    /// What the parameter with a number denotes at an index: its argument, or an element of that. An argument from the context,
-    /// if there is one, replaces the parameter's own.
+    /// What the parameter with a number denotes at an index: its argument, or an element of that argument. An argument from the context, if
+    /// there is one, replaces the parameter's own.
     pub(crate) fn argument_of(&self, number: u32, own: u32, ctx: Context) -> Place
         requires table { IsTable (table_of self.now) }
         requires own { own < length self.now.table.nodes }

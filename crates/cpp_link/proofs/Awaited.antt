@@ -140,7 +140,7 @@ pub nothing_after : (byte : ℕ) (around : Around) (began : State) (vs : List Va
 unfolding behind
 nothing_after byte around began vs state = refl
 
--- a part that was made stays so when only the counting of candidates changes
+-- a part stays made when only the counting of candidates changes
 pub made_counted : (s : List ℕ) (old mid new : Linked) (most count : ℕ) (part : Part) → new.nodes ≡ mid.nodes → new.candidates ≡ mid.candidates → MakesPart s old mid most count (Ok part) → MakesPart s old new most count (Ok part)
 made_counted s old mid new most count part ns cs made = record {
   there = rw ns made.there;

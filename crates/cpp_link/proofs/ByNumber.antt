@@ -14,7 +14,7 @@ same_is true false e = absurd (false≢true e)
 same_is false true e = absurd (false≢true e)
 same_is false false e = refl
 
--- in a list whose first entry has number k, the entries numbered a and b are true, and no others
+-- whether the entries numbered a and b are true and no others, in a list whose first entry has number k
 unfoldable told_by : List Bool → (k a b : ℕ) → Bool
 told_by [] k a b = nat_eq (suc a - k) 0 && nat_eq (suc b - k) 0
 told_by (x ∷ xs) k a b = same x (nat_eq k a || nat_eq k b) && told_by xs (suc k) a b

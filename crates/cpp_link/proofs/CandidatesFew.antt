@@ -16,7 +16,7 @@ unlisted v = cond (is_listed v) 0 1
 unfoldable pub unlisted_around : Around → ℕ
 unlisted_around around = cond (prefix_listed around.prefix) 0 1
 
--- the kinds whose trees become candidates later, if they do: components of nested names, and others
+-- the kinds whose trees become candidates only later, if at all: components of nested names, and others
 unfoldable pub is_component : ℕ → Bool
 is_component k = nat_eq k COMPONENT || nat_eq k CONSTRUCTOR_AFTER_C || nat_eq k HELD_COMPONENT || nat_eq k COMPONENT_AFTER_C || nat_eq k TYPE_IN_STD || nat_eq k NAME_AFTER_MODULE || nat_eq k NAME_IN_MODULE
 
@@ -34,7 +34,7 @@ goes_on k = nat_eq k NEST_REST || nat_eq k NEST_TAIL || nat_eq k NEST_REST_OR_EN
 unfoldable pub is_arguments : ℕ → Bool
 is_arguments k = nat_eq k MAYBE_ARGUMENTS || nat_eq k ARGUMENTS || nat_eq k ARGUMENTS_ALONE || nat_eq k VENDOR_ARGUMENTS || nat_eq k MAYBE_TAGS
 
--- one for a tagged name in the place of the arguments after a name: it isn't a candidate yet
+-- 1 for a tagged name in the place of the arguments after a name: it isn't a candidate yet
 unfoldable pub in_place : Value → ℕ
 in_place (named t qualifiers ref) = 1
 in_place _ = 0
@@ -138,7 +138,7 @@ takes_name Production.NestEnd = true
 takes_name Production.BaseArguments = true
 takes_name _ = false
 
--- the productions that are the arguments after a name
+-- the productions of the arguments after a name
 unfoldable pub begins_arguments : Production → Bool
 begins_arguments Production.Arguments = true
 begins_arguments _ = false
@@ -158,14 +158,14 @@ pub record Later (x : Sym) (over : ℕ) (rest : List Value → ℕ → Type 0) (
   pub few : now + pending_around x next.context v ≤ over + pending x v
   pub goes : rest (next.values ++ v ∷ []) now
 
--- every tree that is appended before a part was pending, or is made there
+-- each tree that is appended before a part is one that was pending, or one that is made then
 pub record Onward (x : Sym) (made now : ℕ) (state : State) (rest : List Value → ℕ → Type 0) (next : Next Value State Around) : Type 0 where
   pub over : ℕ
   pub few : length next.state.candidates + over ≤ length state.candidates + made + now
   pub later : (v : Value) → Later x over rest next v
 
--- After parts with these values, `now` trees are pending. Where the production closes, the trees that it appends and those that
--- its value leaves pending were pending before, or are made there.
+-- After parts with these values, `now` trees are pending. Where the production closes, each tree that it appends, or that its
+-- value leaves pending, was pending before or is made then.
 abbrev pub Flow : Production → Around → (place : ℕ) → List Sym → List Value → (now : ℕ) → Type 0
 Flow p around place [] vs now =
     (byte : ℕ) (began state : State) (one : Found Value State) → close p byte around place began vs state ≡ Ok one

@@ -9,7 +9,8 @@ use Rattle.cpp_link.proofs.CandidatesFlow.{flows}
 
 -- ## Kinds and their productions
 
--- a production of a kind takes no more than is pending before the kind, and leaves no less than is pending after it
+-- a production of a kind takes no more than is pending before the kind, and leaves no less than is pending after the
+-- kind
 unfoldable fits : (k : ℕ) → Production → Bool
 fits k p =
     (not (is_component k) || makes_name p)

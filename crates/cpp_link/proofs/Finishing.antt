@@ -75,7 +75,7 @@ few_adds s old new frame parts few =
     let held : owes frame.rule (length (drop frame.base parts)) ≡ owes frame.rule (length parts - frame.base) = ap (λ n. owes frame.rule n) (length-drop frame.base parts) in
     omega (arith, few, (cpp_laws s).closing frame.rule (drop frame.base parts), held)
 
--- as many nodes are made of the rule's own parts as `made` says
+-- the number of nodes made of the rule's own parts is the one that `made` gives
 made_where_closed : (made : Production → List Value → ℕ) (s : List ℕ) (old new : Linked) (frame : Frame Surroundings) (parts own : List Part) (p : Production) → own ≡ drop frame.base parts → p ≡ production_at frame.rule
     → length new.nodes.nodes ≡ length old.nodes.nodes + made p (values_in s old.nodes own)
     → length new.nodes.nodes ≡ length old.nodes.nodes + made (production_at frame.rule) (values_in s old.nodes (drop frame.base parts))
@@ -83,7 +83,8 @@ made_where_closed made s old new frame parts own p same numbered is = rw (← sa
 
 -- ## What remains to be shown
 
--- The frame's rule is of this production, and a call was to make one part of the rule's own parts, which begin at its base.
+-- The frame's rule is of this production. Its own parts begin at the frame's base, and a call was to make them into one
+-- part.
 module _ (reading : Reading Value State Around) (closing : Production → Around → (place : ℕ) → (began : State) → List Value → State → Result (Found Value State) Refusal) (s : List ℕ)
     (reads : (rule : Open State Around) (known : List Value) (state : State) → open_.IsThere wide s rule → reading.close rule known state ≡ closing (production_at rule.rule.number) rule.context rule.place rule.before known state)
     (made : Production → List Value → ℕ) (old new : Linked) (frame : Frame Surroundings) (parts new_parts : Vec Part Global) (given : List Part) (p : Production)

@@ -1,4 +1,4 @@
--- What is done with a name with its `M`, and with numbers of candidates, is what the wide reading says.
+-- For a name with its `M`, and for the numbers of candidates, linking does what the wide reading says.
 use Rattle.cpp_link.proofs.Basics.{◌≡◌, refl, sym, ◌∙◌, ap, subst, arith, ℕ, ◌<◌, List, [], ◌∷◌, length, Bool, true, false, nat_eq, Option, Some, None, Result, Ok, Err, true≢false, false≢true, eqb-true, Refusal, BadReference, Found, Production, Term, holder, absent, Continuation, inside, after, listed_so_far, appended, appended_by, both, with_holder, counted_unless, counted_held, with_constructor, with_held, is_instance, holder_so_far, place_in, named_in, left_at, with_lists, listed_by, substituted_wide, numbered, between_wide, Stored, tree_at, IsAliasBelow, Node, Surroundings, Step, steps_apart, with_mark, going_marked, lists_after, named_left, named_after, Naming, counted_of, trees_in, prefix_in, prefix_of, name_of, around_of, IsPrefixThere, Marks, goes_on, with_candidate, constructor_by, with_marks, behind_first, named_if, appended_if, makes_before, made_before, IsStepOf}
 use Rattle.cpp_grammar.specs.Values.{Counted, by_all, by_newer, by_gcc, by_clang, by_some, Lists, both_lists, longer_list, shorter_list, no_list}
 use Rattle.cpp_term.specs.Values.{State, Around, Value, tree, tree_of, part, behind, prefix_tree, prefix_listed}
@@ -6,7 +6,7 @@ use Rattle.cpp_tree.specs.Nodes as nodes
 
 -- ## What is done before a part
 
--- what is done for a name with its `M` is done before its second part
+-- what is done for a name with its `M` is done before the second part
 pub held_second : (p : Production) (l : Bool) (before : ℕ) → p ≡ Production.Holder → steps_apart p l before ≡ true → before ≡ 1
 unfolding steps_apart
 held_second p l before is apart = eqb-true before 1 (ap (λ q. steps_apart q l before) (sym is) ∙ apart)
@@ -41,7 +41,7 @@ held_read s y kept place (v ∷ []) state packs name one prefix none =
     by true t h = absurd (true≢false h)
     by false t h = refl
 
--- after arguments an M is refused
+-- an M after arguments is refused
 pub held_refused : (around : Around) (place : ℕ) (vs : List Value) (state : State) → length vs ≡ 1 → is_instance (prefix_tree around.prefix) ≡ true
     → between_wide Production.Holder around place vs state ≡ Err (BadReference place)
 unfolding between_wide holder_so_far
@@ -74,7 +74,7 @@ unfolding between_wide goes_on going_marked with_mark with_candidate
 declared_read s y kept place (v ∷ vs) state packs none = absurd (omega (arith, none))
 declared_read s y kept place [] state packs none = refl
 
--- a name with its `M` makes one node before its second part
+-- a name with its `M` makes one node before the second part
 pub held_makes : (known : List Value) → length known ≡ 1 → 1 ≡ makes_before Production.Holder known
 unfolding makes_before made_before
 held_makes (v ∷ []) one = refl
@@ -116,7 +116,7 @@ twice_noted again around ts node state marks listed first all second newer =
     go true = refl
     go false = refl
 
--- an inherited constructor becomes a candidate after its base class, if it is counted
+-- an inherited constructor becomes a candidate after its base class, if the constructor is counted
 pub constructor_noted : (counted : Counted) (around : Around) (ts : List Term) (state : State) → tree_at ts 0 ≡ absent → with_constructor false counted around state ≡ with_candidate by_gcc around ts (constructor_by counted) state
 unfolding with_constructor with_candidate constructor_by
 constructor_noted by_gcc around ts state is = ap (λ t. appended_by by_gcc around t state) (sym is)
@@ -180,7 +180,7 @@ listed_prefix ts kept state is = ap (λ n. with_held (prefix_listed (prefix_of t
 abbrev Named : Type 0
 Named = Result (Found Value State) Refusal
 
--- A substitution denotes the candidate that its number names at its `S`; the lists that remain then are kept.
+-- A substitution denotes the candidate that its number names at its `S`; the lists that remain after this are kept.
 pub numbered_is : (around : Around) (place number : ℕ) (state : State)
     → numbered around place number state ≡ substituted_wide around place (named_after place number state) (with_lists (lists_after place number state) state)
 unfolding numbered named_after lists_after listed_by named_left with_lists substituted_wide

@@ -1,4 +1,4 @@
--- The reading that the linker follows says of each symbol what C++'s reading says.
+-- The reading that the linker follows gives each symbol the same meaning as C++'s reading.
 use Rattle.cpp_link.proofs.Basics.{slice_get, ◌≡◌, refl, sym, ◌∙◌, ap, subst, arith, ℕ, ◌+◌, ◌-◌, ◌^◌, ◌<◌, ◌||◌, ◌⊎◌, inl, inr, List, [], ◌∷◌, ◌++◌, length, take, drop, Bool, true, false, not, Option, Some, None, Ok, Err, append-nil, Result, nat_eq, nat_lt, if◌then◌else◌, true≢false, false≢true, cases_Bool, eqb-true, take-append_seam, Refusal, BadValue, Rule, Kind as OfKind, Token, symbols_of, Tree, Forest, branch, empty, token, fixed, nothing, grown, spell, spell_all, TakesRule, IsTree, AreTrees, Found, Open, ◌>>=◌, found, alone, standing, unfold_tree, unfold_forest, Tally, tally, Makes, tallied, plain, forest_untallied, Production, SYMBOL, SUFFIX_FIRST, SUFFIX_MORE, HEX_DIGITS, HEX_MORE, parts_of, number_of_kind, kinds, productions, number_of, is_chain, pick, is_in, in_ranges, among, may_be_empty, wide_alternatives, wide_choose, wide, rule_of, rule_taken, wide_sheet, sheet_with, blank, wide_rule_at, is_wide_kind, wide_sound, last_token, production_at, byte_of, local_number, Taken, taken_rule, at_number, its_symbols, same_rule, State, Around, Value, nothing_there, text, piece, tree_of, text_of, part, list, lambda, unnamed, between, in_signature, no_items, parameters, signature_with, meaning, number_tested, opening, behind, close, cpp, first_around, first_state, is_numbered, as_generic_lambda, opening_wide, between_wide, close_wide, cpp_wide, link_opening, link_close_wide, linked_wide, in_64_bits, link_meaning, link_close, link_begin, linked}
 use Rattle.cpp_grammar.specs.declared.kind.Kind.{Kind}
 use Rattle.cpp_grammar.proofs.Ways.{differs}
@@ -113,7 +113,7 @@ suffix_there xs t rest byte is =
     let size : length t + 1 ≡ length (byte ∷ t) = omega arith in
     ap (λ n. take n xs) size ∙ ap (λ x. take (length (byte ∷ t)) x) (is ∙ ap (λ x. byte ∷ (x ++ rest)) (append-nil t)) ∙ take-append_seam (byte ∷ t) rest
 
--- the bytes that a suffix, or one of its bytes, closes to are those of the symbol from its place on
+-- a suffix, or one of its bytes, closes to the symbol's bytes from the rule's place on
 text_closes : (s : List ℕ) (byte place : ℕ) (context : Around) (before begun : State) (inner : Found (List Value) State) (v : Value) (t rest : List ℕ)
     → inner.value ≡ v ∷ [] → text_of v ≡ t → drop place s ≡ (byte ∷ []) ++ ((t ++ []) ++ rest)
     → text (take (length (text_of (part inner.value 0)) + 1) (drop place s)) ≡ text (byte ∷ text_of (part inner.value 0))
@@ -156,12 +156,12 @@ ClosesRule way s p =
 abbrev IsPlainLambda : NotedWay → Type 0
 IsPlainLambda way = (around : Around) (place : ℕ) (vs : List Value) (state : State) → way.between Production.Lambda around place vs state ≡ between Production.Lambda around place vs state
 
--- likewise where a rule begins that the linker reads in a way of its own
+-- likewise at the beginning of a rule that the linker reads in a way of its own
 abbrev OpensPlain : NotedWay → Type 0
 OpensPlain way = (p : Production) → is_plain p ≡ false → (around : Around) (parts : Forest) (place : ℕ) (state : State) → way.opening p around parts place state ≡ opening p parts place state
 
 module _ (way : NotedWay) (plain_way : IsPlainNoted way) (plain_lambda : IsPlainLambda way) (plain_opening : OpensPlain way) where
-  -- if the production's steps are those of the ABI's reading, so are its rule's
+  -- if the production's steps are those of the ABI's reading, so are the steps of the production's rule
   plain_step : (rule : Open State Around) (p : Production) → production_at rule.rule.number ≡ p
       → ((around : Around) (place : ℕ) (vs : List Value) (state : State) → way.between p around place vs state ≡ between p around place vs state) → (known : List Value) (at : ℕ) (first : Tree) (rest : Forest) (state : State)
       → unfold_forest (reading_noted_by way) rule known at (grown first rest) state
@@ -552,7 +552,7 @@ symbol_begins (branch rule taken parts) is =
     chosen true h = (sym (same_rule Production.Symbol rule h), refl)
     chosen false h = let clash : ◌≡◌ {A = Option Rule} None (Some rule) = h in absurd cc
 
--- What the linker's reading says of a symbol is what C++'s says, also where nodes are counted.
+-- The linker's reading gives a symbol the same result as C++'s reading, even where nodes are counted.
 module _ (s : List ℕ) (shape : Tree) (is : IsTree wide (OfKind SYMBOL) shape) (spelled : spell shape ≡ s) where
   abbrev more : List ℕ
   more = (symbol_begins shape is).0

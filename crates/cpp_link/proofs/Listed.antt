@@ -60,7 +60,7 @@ in_both sh c cs all =
     go true = refl
     go false = refl
 
--- where all compilers count alike, the number is the place
+-- where all compilers count alike, a candidate's number is its place
 pub one_place : (sh : Bool) (cs : List values.Candidate) (k : ℕ) → is_by_all (counted_so_far by_all cs) ≡ true → place_in sh cs k ≡ k
 unfolding place_in
 one_place sh [] k all = refl
@@ -207,7 +207,7 @@ module _ (d : values.Candidate) (holds : d.counted ≡ by_newer) where
   longer_same c [] = longer_two c ∙ sym (longer_one c)
   longer_same c (e ∷ cs) = ap (λ n. elim (is_in_list false c (e ∷ cs)) as (λ _. ℕ) [ true ↦ suc n | false ↦ n ]) (longer_same e cs)
 
-  -- what was the last number of the longer list now names the added candidate
+  -- the number that was the last one of the longer list now names the added candidate
   pub longer_last : (c : values.Candidate) (cs : List values.Candidate) (k : ℕ) → suc k ≡ inside false (c ∷ cs) → place_in false ((c ∷ cs) ++ d ∷ []) k ≡ length (c ∷ cs)
   unfolding place_in inside is_in_list is_before_holder
   longer_last c [] k is =
@@ -221,7 +221,7 @@ module _ (d : values.Candidate) (holds : d.counted ≡ by_newer) where
       go true zero is more = absurd (omega (arith, is, some_longer e cs))
       go true (suc j) is more = ap suc (more j (omega (arith, is)))
 
-  -- the numbers before that one keep their places
+  -- the numbers before the last one keep their places
   pub longer_before : (c : values.Candidate) (cs : List values.Candidate) (k : ℕ) → suc k < inside false (c ∷ cs) → place_in false ((c ∷ cs) ++ d ∷ []) k ≡ place_in false (c ∷ cs) k
   unfolding place_in inside is_in_list is_before_holder
   longer_before c [] k less = absurd (omega (arith, less, longer_one c))
@@ -379,7 +379,7 @@ module _ (sh : Bool) (apart : ℕ) (cs : List Candidate) (c : Candidate) (listed
     many : inside sh (marks (cs ++ c ∷ [])) ≡ inside sh (marks cs) + inside sh (mark ∷ [])
     many = ap (λ xs. inside sh xs) pushed ∙ inside_more sh mark plain (marks cs)
 
-    -- a candidate is added that isn't in the list
+    -- the added candidate isn't in the list
     pub listed_out : inside sh (mark ∷ []) ≡ 0 → IsListed sh (apart + 1) (cs ++ c ∷ [])
     listed_out out = record {
       count = omega (arith, many, out, listed.count, length_more cs c);
@@ -389,7 +389,7 @@ module _ (sh : Bool) (apart : ℕ) (cs : List Candidate) (c : Candidate) (listed
     }
 
     module _ (last : is_in_list sh mark [] ≡ true) (alone : inside sh (mark ∷ []) ≡ 1) where
-      -- a candidate is added that holds its own place
+      -- the added candidate holds its own place
       pub listed_same : inside sh (marks cs) ≡ length cs → place_of sh c ≡ length cs → IsListed sh apart (cs ++ c ∷ [])
       listed_same all own = record {
         count = omega (arith, many, alone, listed.count, length_more cs c);

@@ -1,4 +1,4 @@
--- What an `S` names by two lists.
+-- What an `S` names in two lists.
 use Rattle.cpp_link.proofs.Basics.{◌≡◌, refl, sym, ◌∙◌, ap, subst, arith, ℕ, zero, suc, ◌+◌, ◌<◌, ◌≤◌, ◌⊎◌, inl, inr, List, [], ◌∷◌, length, Bool, true, false, Option, Some, None, slice_get, nat_eq, MatchOption, IfSome, false≢true, eqb-true, eq-eqb, ne_eqb, both_lists, longer_list, shorter_list, no_list, by_all, is_by_all, is_by_some, left_by, Term, State, place_in, named_in, named_by_both, counted_so_far, can_be_named, has_head, left_at, both, Candidate, candidate_at, candidate_there, Lists, Linked, lists_after, named_left, named_after, state_of, IsNamed, trees_in, candidates_of, AreNodesThere, maybe_candidate}
 use Rattle.cpp_grammar.specs.Values as plain
 use Rattle.cpp_term.specs.Values as values
@@ -108,7 +108,7 @@ module _ (s : List ℕ) (l : Linked) (place number : ℕ) where
   other_place None (Some b) longer shorter is = inl (λ same. omega (arith, shorter.0, shorter.1, longer, same))
   other_place None None longer shorter is = inr (longer, shorter)
 
-  -- what both lists name by the number, and its node
+  -- the candidate that both lists name by the number, and its node
   abbrev pub IsBoth : Option Candidate → Type 0
   IsBoth c = (maybe_candidate ts c ≡ named_by_both cs number) × IfSome c (λ d. d.node < length l.nodes.nodes)
 

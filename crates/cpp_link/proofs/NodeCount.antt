@@ -1,4 +1,4 @@
--- What is made before the parts of a rule and where it closes is what its production makes.
+-- The nodes that are made before the parts of a rule and at the rule's end are those that its production makes.
 use Rattle.std.proofs.Common.{◌≡◌, refl, ◌∙◌, ap, arith, ℕ, ◌+◌, ◌-◌, ◌<◌, ◌≤◌, List, [], ◌∷◌, length, drop, length-drop, Ok, Err}
 use Rattle.cpp_link.proofs.Basics.{Result, OnOk, Refusal, Frame, Open, IsAt, Production, production_at, Term, State, Value, Around, is_there, Linked, Surroundings, Part, made_at_end, trees_in, value_of, values_in, quiet_parts, makes_before, makes_at_end, one_if_there, pack_before, cpp_view}
 use Rattle.cpp_link.proofs.Places.{values_length}
@@ -16,7 +16,7 @@ quiet_made s old frame parts held counted less =
           (omega (arith, values_length s (trees_in s old.nodes) (drop frame.base parts), length-drop frame.base parts, counted, less)),
     )
 
--- what a production makes of these parts is what the frame's rule makes of its own parts
+-- a production makes as many nodes of these parts as the frame's rule makes of its own parts
 pub made_before_part : (s : List ℕ) (old : Linked) (frame : Frame Surroundings) (parts own : List Part) (p : Production) (made : ℕ) → own ≡ drop frame.base parts → p ≡ production_at frame.rule
     → made ≡ makes_before p (values_in s old.nodes own) → made ≡ makes_before (production_at frame.rule) (values_in s old.nodes (drop frame.base parts))
 made_before_part s old frame parts own p made same numbered is = rw (← same, ← numbered) is

@@ -1,4 +1,5 @@
--- What is done in a constraint, at a literal in it that denotes an encoding, and in that encoding, is what the wide reading says.
+-- What is done in a constraint, at a literal in the constraint that denotes an encoding, and in that encoding, is as the wide
+-- reading says.
 use Rattle.cpp_link.proofs.Basics.{◌≡◌, refl, sym, ◌∙◌, ap, subst, arith, ℕ, ◌<◌, ◌≤◌, List, [], ◌∷◌, length, Bool, true, false, ◌&&◌, nat_eq, nat_lt, Option, Some, None, Result, Ok, true≢false, false≢true, and_parts, eqb-true, ltb-true, Refusal, Memory, Fails, Found, found, Production, at_literal, is_in_constraint, is_at_literal, Term, is_open, State, Around, Value, tree, tree_of, part, next, in_name, in_types, in_constraint_of, is_unseen, in_literal, is_passed_over, passed_over, name_around, types_around, name_if, between_wide, behind, both, Stored, tree_at, IsAliasBelow, Surroundings, Step, link_close, link_meaning, link_close_wide, IsOpenName, name_or, steps_apart, going_marked, makes_before, made_before, trees_in, arguments_in, is_lambda, is_constraint, is_literal, showing_in, around_of, goes_on, with_candidate}
 use Rattle.cpp_references.specs.declared.around.Scope.{Scope}
 use Rattle.cpp_link.proofs.Rescoped.{going_unmarked}
@@ -29,7 +30,7 @@ pub passed_is : (ts : List Term) (kept : Surroundings) → is_passed_over (aroun
 unfolding is_passed_over around_of
 passed_is ts kept = scope_passed kept.scope
 
--- outside of a constraint the surroundings of a literal stay
+-- a literal outside of a constraint keeps its surroundings
 pub literal_as_before : (ts : List Term) (kept : Surroundings) → is_constraint kept.scope ≡ false → around_of ts kept ≡ in_literal (around_of ts kept)
 unfolding in_literal
 literal_as_before ts kept other =
@@ -131,7 +132,7 @@ encoding_makes known = refl
 
 -- ## Where a rule closes
 
--- What is made, or the name if it has free parameters, is what the wide reading says.
+-- What is made, or the name if the name has free parameters, is as the wide reading says.
 pub named_is : (old new : List Term) (passed : Bool) (name made meant : Value) (found_ : Option ℕ) (n : ℕ) → passed ≡ true → IsOpenName old (tree_of name) found_ → IsAliasBelow n found_
     → ((i : ℕ) → i < n → tree_at new i ≡ tree_at old i) → made ≡ meant → name_or new found_ made ≡ name_if (passed && is_open (tree_of name)) name meant
 unfolding name_or name_if
@@ -162,7 +163,7 @@ pub alias_more : (m n : ℕ) (found_ : Option ℕ) → m ≤ n → IsAliasBelow 
 alias_more m n None le below = tt
 alias_more m n (Some i) le below = omega (arith, le, below)
 
--- where nothing is passed over, the value is that of what is made
+-- where nothing is passed over, the value is the value of what is made
 pub unnamed_is : (passed has_free : Bool) (name meant : Value) → passed ≡ false → name_if (passed && has_free) name meant ≡ meant
 unfolding name_if
 unnamed_is true has_free name meant passed = absurd (true≢false passed)

@@ -7,7 +7,7 @@ use Rattle.cpp_link.specs.Counting.{marks, inside, place_of, placed, with_place,
 use Rattle.cpp_link.proofs.Appending.{candidates_push}
 use Rattle.cpp_link.proofs.Listed.{all_inside, some_longer, last_all, last_is, listed_out, listed_same, listed_put, holder_longer, holder_shorter, longer_kept, shorter_kept, so_far_more, with_same, with_length, with_nodes}
 
--- a list of one candidate has one number if the candidate is in it, and none otherwise
+-- after one candidate, a list has one number if the candidate is in it, and none otherwise
 alone_is : (sh : Bool) (c : Candidate) (b : Bool) → is_in_list sh (candidate_of [] c) [] ≡ b → inside sh (candidate_of [] c ∷ []) ≡ elim b [ true ↦ 1 | false ↦ 0 ]
 unfolding inside
 alone_is sh c b is = ap (λ x. elim x as (λ _. ℕ) [ true ↦ 1 | false ↦ 0 ]) is

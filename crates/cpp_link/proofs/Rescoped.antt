@@ -144,7 +144,7 @@ wide_byte_serves s rule known state there = by (production_at rule.rule.number) 
 
 -- ## How many nodes are made
 
--- a call that continues to the next part by the wide reading, and makes n nodes, also continues to it where nodes are counted
+-- a call that continues to the next part by the wide reading, and makes n nodes, does the same where nodes are counted
 pub goes_counted : (s : List ℕ) (old : Rescoping) (new : Linked) (frame : Frame Surroundings) (parts new_parts : List Part) (result : Result Surroundings Refusal) → 4 ≤ length old.linked.nodes.nodes
     → OnOk result (length new.nodes.nodes ≡ length old.linked.nodes.nodes + makes_before (production_at frame.rule) (values_in s old.linked.nodes (drop frame.base parts)))
     → GoesOn (wide_view s) s (Surrounds s) old.linked new frame parts new_parts result
@@ -168,7 +168,7 @@ unfolding wide_at_end
 apart_end Production.Substitution around place known state apart = absurd (apart refl)
 apart_end _ around place known state apart = refl
 
--- a call that closes a rule by the wide reading, and makes n nodes, also closes it where nodes are counted
+-- a call that closes a rule by the wide reading, and makes n nodes, closes the rule also where nodes are counted
 pub closes_counted : (s : List ℕ) (old : Rescoping) (new : Linked) (frame : Frame Surroundings) (parts new_parts : List Part) (result : Result (Unit {0}) Refusal) → 4 ≤ length old.linked.nodes.nodes
     → OnOk result (length new.nodes.nodes ≡ length old.linked.nodes.nodes + wide_ends s old.linked frame.place frame.kept (production_at frame.rule) (values_in s old.linked.nodes (drop frame.base parts)))
     → ClosesAll (wide_view s) s old.linked new frame parts new_parts result → ClosesAll (wide_counted s) s old (record { linked = new }) frame parts new_parts result
@@ -246,7 +246,8 @@ pub record IsNoneRead (p : Production) : Type 0 where
   pub not_encoding : p ≡ Production.Encoding → ⊥
   pub not_named_module : p ≡ Production.NamedModule → ⊥
 
--- if the wide reading does something of its own before a part of such a production, this is a parameter in a lambda's signature
+-- if the wide reading does something of its own before a part of such a production, the production is a parameter in a lambda's
+-- signature
 pub apart_generic : (p : Production) (l : Bool) (before : ℕ) → steps_apart p l before ≡ true → IsNoneRead p → (is_parameter p ≡ true) × ((l ≡ true) × (before ≡ 1))
 unfolding steps_apart is_parameter
 apart_generic Production.Parameter l before is other = (refl, second l before is)

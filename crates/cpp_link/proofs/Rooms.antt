@@ -32,7 +32,7 @@ module _ {A : Type 0} (old new : Linked) (parts new_parts : Vec Part Global) (re
   roomy_ok done is keeps capacity =
       record { keeps = keeps; capacity = capacity; full = λ memory. (let clash : ◌≡◌ {A = Result A Refusal} (Ok done) (Err Memory) = sym is ∙ memory in absurd cc) }
 
-  -- a call that passes on a refusal, which is for want of room if it is `Memory`
+  -- a call that passes on a refusal; the refusal `Memory` is for want of room
   pub roomy_refused : (e : Refusal) → result ≡ Err e → KeepsRoom old new → vec_capacity parts ≤ vec_capacity new_parts
       → (e ≡ Memory → LacksRoom old new ⊎ (vec_capacity parts < length new_parts.items + 1)) → IsRoomy old new parts new_parts result
   roomy_refused e is keeps capacity full =

@@ -1,4 +1,4 @@
--- What is counted of a production is what its row says.
+-- The counts for a production are those that its row gives.
 use Rattle.cpp_link.proofs.Basics.{◌≡◌, refl, ◌∙◌, ap, arith, ℕ, zero, suc, ◌+◌, ◌<◌, List, [], ◌∷◌, length, get_or, Bool, true, false, if◌then◌else◌, cond, ◌&&◌, Production, Action, quiet, goes, becomes, tests, holds, unread, before_part, quiet_before, quiet_from, row_of, Value, part, tree_of, no_items, is_void, is_nil, makes_before, makes_at_end, std_before, pack_before, name_at_end, lambda_at_end, one_if_declared, made_before, made_at_end, nodes_made, nodes_before, nodes_of, nodes_at_end, quiet_parts}
 
 -- ## How many nodes are made
@@ -49,12 +49,12 @@ quiet_at (tests after_t is_name ∷ rest) onward m k less = absurd (omega (arith
 quiet_at (holds ∷ rest) onward m k less = absurd (omega (arith, less))
 quiet_at (unread ∷ rest) onward m k less = absurd (omega (arith, less))
 
--- before these parts nothing is done
+-- nothing is done before these parts
 pub quiet_part : (p : Production) (k : ℕ) → k < quiet_parts p → before_part (row_of p) k ≡ quiet
 unfolding before_part quiet_before
 quiet_part p k less = quiet_at (row_of p).before (row_of p).onward 0 k (omega (arith, less, same_quiet p))
 
--- before these parts no node is made
+-- no node is made before these parts
 pub quiet_makes : (p : Production) (vs : List Value) → length vs < quiet_parts p → makes_before p vs ≡ 0
 unfolding nodes_before
 quiet_makes p vs less = same_before_nodes p vs ∙ ap (λ b. nodes_before b vs) (quiet_part p (length vs) less)

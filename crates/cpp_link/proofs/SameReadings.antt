@@ -1,5 +1,5 @@
--- Two readings that differ only where rules begin and close give a tree the same meaning if they agree there on each of its
--- rules.
+-- Two readings that differ only where rules begin and close give a tree the same meaning if they begin and close each of
+-- the tree's rules alike.
 use Rattle.cpp_link.proofs.Basics.{◌≡◌, refl, sym, ◌∙◌, ap, ℕ, ◌+◌, ◌<◌, List, [], ◌∷◌, ◌++◌, length, drop, Ok, Err, append_assoc, Result, drop-drop, drop-append_seam, Refusal, Rule, Sym, Kind, Name, Number, Byte, Table, symbols_of, IsSymbol, AreSymbols, Tree, Forest, branch, empty, token, fixed, nothing, grown, spell, spell_all, IsTree, AreTrees, Found, Open, Reading, ◌>>=◌, alone, standing, unfold_tree, unfold_forest}
 use Rattle.sym_link.specs.Sound.{IsSound}
 

@@ -5,7 +5,7 @@ use Rattle.cpp_link.proofs.Making.{parts_more}
 
 -- ## Nodes that steps make
 
--- after the first part of a production that makes a node there, any step is one of the production
+-- if a production makes a node after its first part, any step taken there is a step of the production
 pub first_steps : (p : Production) (result : Result Step Refusal) → get_or (made_before p) 1 0 ≡ 1 → IfOk result (λ step. IsStepOf p 1 step)
 first_steps p (Err e) one = tt
 first_steps p (Ok (Step.Go candidate then packs)) one = tt
@@ -182,7 +182,7 @@ named_counts p l base parts new_parts part some own =
     let split = first_of base parts some in
     rw (own, split.1) (omega (arith, closes_behind p split.0 part (drop (base + 1) parts)))
 
--- the first part is replaced by that of a node that has been made
+-- the first part is replaced by a node that has been made
 pub made_counts : (p : Production) (old new : Linked) (base : ℕ) (parts new_parts : List Part) (part : Part) → 0 < length (drop base parts) → get_or (made_before p) (length (drop base parts)) 0 ≡ 1
     → (p ≡ Production.PackArgument → drop base parts ≡ Part.Nothing ∷ [] → ⊥) → length new.nodes.nodes ≤ length old.nodes.nodes + 1
     → drop base new_parts ≡ part ∷ drop (base + 1) parts

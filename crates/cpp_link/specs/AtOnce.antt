@@ -1,5 +1,5 @@
--- A rule that closes in the step that begins it adds at most two nodes, together with those that the rule around it adds there.
--- This is a test of the grammar's rules, by computing.
+-- A rule that begins and closes in one step adds at most two nodes, together with the nodes that the rule around it adds in
+-- this step. This is a test of the grammar's rules, by computing.
 use Rattle.std.proofs.Common.{◌≡◌, refl, sym, ◌∙◌, ap, subst, arith, ℕ, zero, suc, ◌+◌, ◌<◌, ◌≤◌, List, [], ◌∷◌, length, drop, get_or, Bool, true, false, not, ◌&&◌, ◌||◌, cond, if◌then◌else◌, Some, inl, inr}
 use Rattle.std.specs.Prelude.{nat_le}
 use Rattle.std.proofs.lemmas.Bool.{false≢true, and_parts, leb-true, cases_Bool, cases_eq, cases_lt}

@@ -1,4 +1,5 @@
--- How many nodes a rule may add after these parts, if no other part has a row: before the parts without a row, and at its end.
+-- How many nodes a rule may add after these parts, if no other part has a row: before the parts without a row, and at the
+-- rule's end.
 use Rattle.std.specs.Prelude.{ℕ, ◌+◌, List, [], ◌∷◌, length}
 use Rattle.cpp_grammar.specs.declared.production.Production.{Production}
 use Rattle.cpp_grammar.specs.Unfolding.{production_at}
@@ -15,7 +16,7 @@ unfoldable pub pack_makes : Part → ℕ
 pack_makes Part.Nothing = 0
 pack_makes _ = 1
 
--- a pack is made after its elements; at its end, the list that begins with it is made
+-- a pack is made after its elements, and the list that begins with the pack is made at the end
 unfoldable pub pack_closes : List Part → ℕ
 pack_closes (elements ∷ []) = pack_makes elements + 1
 pack_closes _ = 1
@@ -31,7 +32,7 @@ closes_of p parts = owes_of p (length parts)
 unfoldable pub closes : (number : ℕ) → List Part → ℕ
 closes number parts = closes_of (production_at number) parts
 
--- what is added only at the end, once all the parts are there
+-- what is added only at the end, once all the parts are read
 unfoldable pub ends_of : Production → List Part → ℕ
 ends_of Production.InternalName parts = name_closes parts
 ends_of Production.SourceName parts = name_closes parts

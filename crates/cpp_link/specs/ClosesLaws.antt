@@ -1,4 +1,4 @@
--- What a rule may add after its parts, as parts are added.
+-- How many nodes a rule may add after its parts, as parts are added.
 use Rattle.std.proofs.Common.{◌≡◌, refl, arith, lit≤, ℕ, zero, suc, ◌+◌, ◌≤◌, List, [], ◌∷◌, ◌++◌, length, drop, get_or, length-append}
 use Rattle.cpp_grammar.specs.declared.production.Production.{Production}
 use Rattle.cpp_link.specs.declared.part.Part.{Part}

@@ -1,4 +1,4 @@
--- Which candidates compilers count, as the linker notes it.
+-- Which candidates compilers count, as noted by the linker.
 use Rattle.std.specs.Prelude.{◌≡◌, ℕ, zero, suc, ◌+◌, ◌<◌, List, [], ◌∷◌, ◌++◌, length, get_or, Bool, true, false, nat_eq, Option, Some, vec_capacity}
 use Rattle.cpp_grammar.specs.Values as plain
 use Rattle.cpp_term.specs.Term.{Term}
@@ -35,7 +35,7 @@ counting_of c = record { lists = lists_of c.lists; expected = expected_of c.expe
 
 -- ## Numbers of candidates
 
--- by which compilers each candidate is counted, regardless of its tree
+-- which compilers count each candidate, regardless of its tree
 abbrev pub marks : List Candidate → List values.Candidate
 marks cs = candidates_of [] cs
 

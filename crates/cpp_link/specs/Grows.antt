@@ -3,7 +3,7 @@ use Rattle.std.specs.Prelude.{◌≡◌, ℕ, ◌+◌, ◌<◌, ◌≤◌, ◌^�
 use Rattle.cpp_tree.specs.Nodes.{Stored, over, tree_at, IsTable}
 use Rattle.cpp_link.specs.Parts.{trees_in}
 
--- the new table is the old one and at most n nodes more: existing nodes denote what they denoted
+-- the new table is the old one and at most n nodes more: existing nodes keep their meaning
 pub record Grows (s : List ℕ) (old new : Stored) (more : ℕ) : Type 0 where
   pub table : IsTable (over s new)
   pub stays : (i : ℕ) → i < length old.nodes → tree_at (trees_in s new) i ≡ tree_at (trees_in s old) i

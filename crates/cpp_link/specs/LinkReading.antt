@@ -1,5 +1,5 @@
--- C++'s reading as the linker follows it: it knows the bytes of a text, but not which token of the symbol they are; of a symbol's
--- first rule it knows only the place. It gives each symbol the same meaning as C++'s reading.
+-- C++'s reading as the linker follows it. This reading knows the bytes of a text, but not which token of the symbol has them, and
+-- it knows only the place of a symbol's first rule. It gives each symbol the same meaning as C++'s reading.
 use Rattle.std.specs.Prelude.{ℕ, ◌+◌, ◌-◌, ◌^◌, List, length, take, drop, nat_eq, nat_lt, if◌then◌else◌, Result, Ok}
 use Rattle.sym_core.specs.declared.refusal.Refusal.{Refusal}
 use Rattle.sym_shape.specs.Tree.{Forest}

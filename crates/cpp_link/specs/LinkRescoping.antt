@@ -45,8 +45,8 @@ link_close_wide s Production.EncodingLiteral byte around place began vs state =
     Ok (found (name_if (is_unseen around && is_open (tree_of (part vs 1))) (part vs 1) (link_meaning s Production.EncodingLiteral byte place around vs)) state)
 link_close_wide s production byte around place began vs state = link_close s production byte around place began vs state
 
--- At the `S` of a nested name, at a type under qualifiers and at a type of an encoding, notes what may be named there; in a name,
--- notes which types are awaited.
+-- Notes what may be named at the `S` of a nested name, at a type under qualifiers and at a type of an encoding; notes in a name
+-- which types are awaited.
 unfoldable pub link_opening : Production → Open State Around → Forest → Result State Refusal
 link_opening Production.NestTemplate rule parts = Ok (noting (expecting (prefix_at (rule.place - 1)) rule.before.counting) rule.before)
 link_opening Production.QualifiedPlain rule parts = Ok (noting (expecting (qualified_at rule.place) rule.before.counting) rule.before)
@@ -79,9 +79,9 @@ unfoldable pub is_parameter_argument : Production → Bool
 is_parameter_argument Production.ParameterExpression = true
 is_parameter_argument _ = false
 
--- Whether the wide reading does something of its own before the part after n others: in a lambda's signature a parameter is
--- named, or what the lambda declares is read; a name becomes a candidate with its M; or the base class of an inherited
--- constructor, with the constructor, or the name of a concept is counted.
+-- Whether the wide reading does something of its own before the part that follows n others. In a lambda's signature it
+-- names a parameter, reads an encoding, or reads what the lambda declares. Elsewhere a name becomes a candidate with its M,
+-- or a concept's name or the base class of an inherited constructor, with the constructor, is counted.
 unfoldable pub steps_apart : Production → (in_lambda : Bool) → (before : ℕ) → Bool
 steps_apart Production.Parameter in_lambda before = in_lambda && nat_eq before 1
 steps_apart Production.NestParameter in_lambda before = in_lambda && nat_eq before 1
@@ -96,7 +96,7 @@ steps_apart Production.EncodingLiteral in_lambda before = in_lambda && nat_eq be
 steps_apart Production.Encoding in_lambda before = in_lambda && nat_lt before 2
 steps_apart _ in_lambda before = false
 
--- The state with its new candidates, before the part after parts with these values: a name with its M, a base class and the
+-- The state with its new candidates, once parts with these values are read: a name with its M, a base class and the
 -- constructor, or a concept's name.
 unfoldable pub with_mark : Production → Around → List Value → State → State
 with_mark Production.Holder around vs state = with_holder around (tree_of (part vs 0)) state
@@ -108,7 +108,7 @@ unfoldable pub going_marked : Production → Around → Continuation → Continu
 going_marked production around (Ok next) = Ok (record next { state = with_mark production around next.values next.state })
 going_marked production around (Err e) = Err e
 
--- the value of the lambda's own parameter of this number, which may be an argument itself
+-- the value of the lambda's own parameter with this number, which may be passed as an argument
 unfoldable pub generic_read : (is_argument : Bool) → Around → ℕ → State → Continuation
 generic_read true around k state = next (tree (parameter (generic_number k) auto) true ∷ []) around state
 generic_read false around k state = generic_so_far around k [] state
@@ -187,7 +187,7 @@ are_wide_nodes shape nodes = nodes ≡ wide_nodes_of_shape shape
 abbrev pub wide_view : List ℕ → View Linked Part Surroundings Value State Around
 wide_view s = record (cpp_view s) { reading = linked_wide s }
 
--- a language, with its linked symbol held in one of the wide grammar
+-- a language whose linked symbol is held in a linked symbol of the wide grammar
 abbrev pub within : {S : Type 0} → View Linked Part Surroundings Value S Around → View Rescoping Part Surroundings Value S Around
 within view = record {
   table = view.table;

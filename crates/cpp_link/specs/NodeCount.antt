@@ -55,8 +55,8 @@ unfoldable pub one_if_declared : Value → ℕ
 one_if_declared (pair second left right) = 1
 one_if_declared v = 0
 
--- A lambda makes the list of its parameters, unless they are a lone void: the empty list is at the front of each table. It makes
--- one node more where it declares parameters.
+-- A lambda makes the list of its parameters, unless they are a lone void: the empty list is at the front of each table. The
+-- lambda makes one node more where it declares parameters.
 unfoldable pub lambda_at_end : List Value → ℕ
 lambda_at_end known = (if is_void (tree_of (part known 0)) && is_nil (no_items (part known 1)) then 0 else 1) + one_if_declared (part known 0)
 
@@ -65,7 +65,7 @@ unfoldable pub inheriting_at_end : Value → ℕ
 inheriting_at_end (pair second own base) = 2
 inheriting_at_end base = 1
 
--- an expression is put in parentheses where an argument may not end in it
+-- an expression that would seem to continue or to end template arguments is put in parentheses
 unfoldable pub enclosed_at_end : List Value → ℕ
 enclosed_at_end known = if ends_arguments (tree_of (part known 0)) then 1 else 0
 

@@ -20,7 +20,8 @@ use Rattle.cpp_link.specs.Room.{KeepsRoom, LacksRoom, IsRoomy}
 use Rattle.cpp_link.specs.View as view
 use Rattle.cpp_link.specs.View.{IsPaid, IsWhole, Surrounds, cpp_view}
 
--- At most n nodes were added, and the last of them is the answer. The candidates, how they are counted, and the packs stay.
+-- At most n nodes were added, and the last of them is the answer. The candidates, their counting and the packs stay as they
+-- are.
 pub record AddsNodes (s : List ℕ) (old new : Linked) (count : ℕ) (result : Result ℕ Refusal) : Type 0 where
   pub grows : Grows s old.nodes new.nodes count
   pub more : OnOk result (length new.nodes.nodes ≡ length old.nodes.nodes + count)
@@ -32,7 +33,8 @@ pub record AddsNodes (s : List ℕ) (old new : Linked) (count : ℕ) (result : R
   pub keeps : KeepsRoom old new
   pub full : OnErr result (LacksRoom old new)
 
--- A rule's part was made of `count` nodes, if it was made. In any case at most as many are made as may be where the rule ends.
+-- A rule's part was made of `count` nodes, if it was made. In any case no more nodes are made than may be made at the rule's
+-- end.
 pub record MakesPart (s : List ℕ) (old new : Linked) (most count : ℕ) (result : Result Part Refusal) : Type 0 where
   pub there : IfOk result (λ part. IsThere s (length new.nodes.nodes) part)
   pub grows : OnOk result (view.GoesOn s old new)
@@ -43,7 +45,7 @@ pub record MakesPart (s : List ℕ) (old new : Linked) (most count : ℕ) (resul
   pub keeps : KeepsRoom old new
   pub full : IfErr result (λ e. e ≡ Memory → LacksRoom old new)
 
--- What is done before the next part is what the view's reading says, and so are the surroundings of that part.
+-- What is done before the next part, and the surroundings of that part, are as the view's reading says.
 pub record Advances (view : View Linked Part Surroundings Value State Around) (s : List ℕ) (old new : Linked) (frame : Frame Surroundings) (parts new_parts : Vec Part Global) (result : Result Surroundings Refusal) : Type 0 where
   pub goes : GoesOn view s (Surrounds s) old new frame parts.items new_parts.items result
   pub adds : OnOk result (Adds (cpp_view s) old new (owed_behind (cpp_view s) frame parts.items) (owed_next (cpp_view s) frame new_parts.items))
@@ -53,8 +55,8 @@ pub record Advances (view : View Linked Part Surroundings Value State Around) (s
   pub count : OnOk result (length new_parts.items ≡ length parts.items)
   pub roomy : IsRoomy old new parts new_parts result
 
--- The rule closes over all its parts as the view's reading says, and makes as many nodes as its production does with what they
--- denote.
+-- The rule closes over all its parts as the view's reading says, and makes as many nodes as its production makes of what the
+-- parts denote.
 pub record Finishes (view : View Linked Part Surroundings Value State Around) (made : Production → List Value → ℕ) (s : List ℕ) (old new : Linked) (frame : Frame Surroundings)
     (parts new_parts : Vec Part Global) (result : Result (Unit {0}) Refusal) : Type 0 where
   pub closes : ClosesAll view s old new frame parts.items new_parts.items result

@@ -96,7 +96,7 @@ unfoldable pub ending_node : Node → Bool
 ending_node (Node.Operation first second left right) = is_code 99 109 first second || is_code 103 116 first second || is_code 114 115 first second
 ending_node _ = false
 
--- the first element of a nonempty list and its other elements, and the argument under which both are
+-- the first element of a nonempty list and its other elements, and the argument that both are under
 unfoldable pub cell_under : Node → Option ℕ → Option Split
 cell_under (Node.Cell first rest) under = Some (record { first = first; rest = rest; under = under })
 cell_under _ under = None

@@ -1,4 +1,4 @@
--- Linking by the wide grammar keeps to what every language does.
+-- Linking by the wide grammar obeys the laws of linking in every language.
 use Rattle.std.proofs.Common.{◌≡◌, refl, ℕ, ◌-◌, suc, List, [], ◌∷◌, length, Bool, true, false, Option, None, Some, Err}
 use Rattle.std.specs.Result.{IfOk}
 use Rattle.sym_core.specs.declared.refusal.Refusal.TheVariants.{BadReference}

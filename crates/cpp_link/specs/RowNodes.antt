@@ -20,8 +20,8 @@ nodes_before (tests after_t is_name) vs = 1
 nodes_before holds vs = 1
 nodes_before _ vs = 0
 
--- The list of a lambda's parameters isn't made of a lone void: the empty list is at the front of each table. A substitution makes
--- no node here.
+-- A lambda's parameters need no new list if they are a lone void, since the empty list is at the front of each table. A
+-- substitution makes no node here.
 unfoldable pub nodes_of : Own → (most : ℕ) → List Value → ℕ
 nodes_of closure most vs = cond (is_void (tree_of (part vs 0)) && is_nil (no_items (part vs 1))) 0 1 + one_if_declared (part vs 0)
 nodes_of substitution most vs = 0

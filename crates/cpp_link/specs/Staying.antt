@@ -1,4 +1,4 @@
--- Existing nodes denote what they denoted, where nodes are added.
+-- Existing nodes keep their meaning when nodes are added.
 use Rattle.std.proofs.Common.{◌≡◌, refl, arith, ℕ, ◌<◌, ◌≤◌, List, [], ◌∷◌, length, Option, Some, None}
 use Rattle.cpp_tree.specs.Nodes.{Stored, tree_at, piece_of, tree_if_there, IsPieceBelow, IsAliasBelow}
 use Rattle.cpp_tree.specs.declared.node.Piece.{Piece}

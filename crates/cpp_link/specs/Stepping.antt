@@ -18,14 +18,15 @@ abbrev pub nodes_of_step : Step → ℕ
 nodes_of_step (Step.Made node listed is_name is_candidate packs) = 1
 nodes_of_step _ = 0
 
--- A step after n parts of a production: if it changes the first part, there is a first part; if it makes a node, the production
--- makes one there.
+-- A step after n parts of a production. If the step changes the first part, there is a first part; if it makes a node, the
+-- production makes a node after n parts.
 abbrev pub IsStepOf : Production → (held : ℕ) → Step → Type 0
 IsStepOf production held (Step.Go candidate then packs) = Unit {0}
 IsStepOf production held (Step.Named node listed is_name) = 0 < held
 IsStepOf production held (Step.Made node listed is_name is_candidate packs) = (0 < held) × (get_or (made_before production) held 0 ≡ 1)
 
--- a step's nodes and those that the production may add after it are at most those that it might add before the step
+-- the nodes of a step, with those that the production may add after the step, are at most those that the production
+-- might add before it
 abbrev pub CountsStep : {A : Type 0} → Production → (old new : Linked) → (own new_own : List Part) → Result A Refusal → Type 0
 CountsStep p old new own new_own (Ok then) = length new.nodes.nodes + closes_of p (new_own ++ Part.Nothing ∷ []) ≤ length old.nodes.nodes + closes_of p own
 CountsStep p old new own new_own (Err e) = length new.nodes.nodes ≤ length old.nodes.nodes + closes_of p own

@@ -1,4 +1,4 @@
--- Linking a C++ symbol keeps to what every language does.
+-- Linking a C++ symbol obeys the laws that hold for every language.
 use Rattle.std.proofs.Common.{◌≡◌, refl, ◌∙◌, arith, ℕ, ◌≤◌, false, List, length}
 use Rattle.sym_link.proofs.Tally.{tallied_laws, tallied_threads}
 use Rattle.sym_link.specs.Reading.{Open}

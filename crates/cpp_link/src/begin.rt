@@ -16,8 +16,8 @@ use sym_core::{Refusal, value10};
 use sym_shape::rule::Row;
 
 /// Whether the production with this number is a lambda or an unnamed type: its last part is a
-/// number that counts as one more than its digits. The production isn't looked up, since this is
-/// asked for each rule.
+/// number that counts as one more than its digits. The production isn't looked up, since this
+/// function is called for each rule.
 #[inline(always)]
 fn is_numbered(number: u16) -> bool
     ensures { result ≡ is_numbered (production_at number) }

@@ -63,7 +63,7 @@ pub(crate) fn quiet_parts(number: u16) -> usize
 }
 
 impl Linked {
-    /// A tree becomes a candidate, if one is given, and the packs have this length.
+    /// A tree, if one is given, becomes a candidate. The packs then have this length.
     ///
     /// # Errors
     ///
@@ -207,7 +207,7 @@ impl Linked {
     ///
     /// # Errors
     ///
-    /// Those of `before_part`.
+    /// The errors of `before_part`.
     #[tactic(auto, using(crate::proofs::Viewing::own_there, crate::proofs::Viewing::open_kept))]
     #[inline(always)]
     pub(crate) fn before_as(
@@ -233,7 +233,7 @@ impl Linked {
     ///
     /// # Errors
     ///
-    /// Those of `before_part`.
+    /// The errors of `before_part`.
     #[inline(never)]
     pub(crate) fn before_rare(
         &mut self,
@@ -251,11 +251,12 @@ impl Linked {
         self.before_as(symbol, production, frame, parts)
     }
 
-    /// Likewise. The room for the call's outcome is made only where it is called.
+    /// Likewise, for rare productions. Room for the call's outcome is made only where the call is
+    /// made.
     ///
     /// # Errors
     ///
-    /// Those of `before_part`.
+    /// The errors of `before_part`.
     #[inline(always)]
     fn before_other(
         &mut self,
@@ -276,11 +277,11 @@ impl Linked {
         }
     }
 
-    /// Likewise, with code of their own for the common productions.
+    /// Likewise, with separate code for each common production.
     ///
     /// # Errors
     ///
-    /// Those of `before_part`.
+    /// The errors of `before_part`.
     #[inline(never)]
     fn before_by_step(
         &mut self,
@@ -318,11 +319,12 @@ impl Linked {
         }
     }
 
-    /// Likewise. The room for the call's outcome is made only where it is called.
+    /// Likewise, for all productions. Room for the call's outcome is made only where the call is
+    /// made.
     ///
     /// # Errors
     ///
-    /// Those of `before_part`.
+    /// The errors of `before_part`.
     #[inline(always)]
     fn before_by_call(
         &mut self,

@@ -93,7 +93,7 @@ impl Linked {
         }
     }
 
-    /// The heads of the first four of these types, of the encoding that begins at this place.
+    /// The heads of the first four of these types, for the encoding that begins at this place.
     fn heads(&self, symbol: &[u8], encoding: u32, types: u32) -> Awaited
         requires table { IsTable (over symbol.now self.now.nodes) }
         requires below { types < length self.now.nodes.nodes }
@@ -155,7 +155,7 @@ impl Linked {
         }
     }
 
-    /// These types are awaited, where not all compilers count alike.
+    /// These types are awaited, unless all compilers count alike.
     fn await_types(&mut self, awaited: Awaited)
         ensures nodes { self.new.nodes ≡ self.old.nodes }
         ensures candidates { self.new.candidates ≡ self.old.candidates }

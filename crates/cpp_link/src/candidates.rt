@@ -24,7 +24,7 @@ pub struct Candidates {
     pub not_longer: usize,
     /// The number of candidates that aren't in the shorter list.
     pub not_shorter: usize,
-    /// By whom the longer list is counted.
+    /// Which compilers count the longer list.
     pub by: Counted,
 }
 
@@ -193,7 +193,7 @@ impl Candidates {
         Ok(())
     }
 
-    /// The place among all candidates of the one that has this number in the longer list.
+    /// The place, among all candidates, of the candidate with this number in the longer list.
     pub(crate) fn longer_place(&self, number: u64) -> Option<usize>
         requires counted { IsCounted self.now }
         ensures { MatchOption result (length self.now.list.items ≤ place_in false (marks self.now.list.items) number) (λ place. (place ≡ place_in false (marks self.now.list.items) number) × (place < length self.now.list.items)) }
@@ -205,7 +205,7 @@ impl Candidates {
         None
     }
 
-    /// The place among all candidates of the one that has this number in the shorter list.
+    /// The place, among all candidates, of the candidate with this number in the shorter list.
     pub(crate) fn shorter_place(&self, number: u64) -> Option<usize>
         requires counted { IsCounted self.now }
         ensures { MatchOption result (length self.now.list.items ≤ place_in true (marks self.now.list.items) number) (λ place. (place ≡ place_in true (marks self.now.list.items) number) × (place < length self.now.list.items)) }

@@ -20,8 +20,8 @@ pub enum Lists {
     Neither,
 }
 
-/// The place of the last `S` with something known about what it names: it begins a nested name, or
-/// it is a type under qualifiers, or a parameter type, with this head, of a lambda's function.
+/// The place of the last `S` with something known about what it names: the `S` begins a nested
+/// name, is a type under qualifiers, or is a parameter type of a lambda's function, with this head.
 #[derive(Clone, Copy)]
 pub enum Expected {
     Anything,
@@ -91,7 +91,7 @@ impl Awaited {
         }
     }
 
-    /// What is awaited when another type comes before these.
+    /// What is awaited when another type comes before these types.
     #[tactic(auto, unfolding(cpp_grammar::specs::Rescoping::behind_another))]
     pub fn behind_another(self) -> Awaited
         ensures { awaited_of result ≡ rescoping.behind_another (awaited_of self) }
@@ -235,7 +235,8 @@ pub fn left(lists: Lists, longer_fits: bool, shorter_fits: bool) -> Lists
     }
 }
 
-/// Likewise, and by whether each candidate may have the expected head: this decides if both fit.
+/// Likewise; but if both candidates fit, the lists that remain depend on whether each candidate may
+/// have the expected head.
 #[tactic(auto, unfolding(crate::specs::Counting::lists_of, cpp_grammar::specs::Rescoping::left, cpp_grammar::specs::Rescoping::left_by))]
 pub fn left_by(
     lists: Lists,

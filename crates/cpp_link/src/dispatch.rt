@@ -10,8 +10,8 @@ use crate::tables::{PART_COUNTS, PRODUCTIONS, SKIPS_PARTS};
 use cpp_grammar::production::Production;
 
 /// The production with a number.
-// It is looked up at each use: some 7 % of linking's instructions, with the other tables. A copy kept in the frame would have
-// to be proved to be its rule's.
+// It is looked up at each use: some 7 % of linking's instructions, with the other tables. A copy kept in the frame would need a proof that
+// it is the production of the frame's rule.
 pub fn production_of(number: u16) -> Production
     ensures { result ≡ production_at number }
 {
@@ -43,8 +43,8 @@ fn skips_parts(number: u16) -> bool
     }
 }
 
-/// How many parts of the production with a number are before the next one that has a row, once this many have begun, and how
-/// many are after it. In most productions each part has a row.
+/// How many parts of the production with a number are before the next one that has a row: `held` parts have begun, and `after` parts follow
+/// that one. In most productions each part has a row.
 #[inline(always)]
 pub fn parts_ahead(number: u16, held: usize, after: u8) -> usize
     ensures { IsAhead wide number held after result }

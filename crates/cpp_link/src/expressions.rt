@@ -97,7 +97,7 @@ pub(crate) fn second_letter(piece: Piece) -> u8
 }
 
 impl Linked {
-    /// The operation of the operator with these two letters: the address of an encoding is a node
+    /// The operation of the operator with these two letters; the address of an encoding is a node
     /// of its own.
     #[tactic(auto, unfolding(cpp_tree::specs::Nodes::tree_of))]
     fn operation(&self, symbol: &[u8], first: u8, second: u8, left: u32, right: u32) -> Node
@@ -199,7 +199,7 @@ impl Linked {
         made(Node::Cell { first, rest }, true)
     }
 
-    /// The letter of the part with this number, or this one if the part has none.
+    /// The letter of the part with this number, or the other letter if the part has none.
     #[inline(always)]
     pub(crate) fn letter_or(&self, symbol: &[u8], parts: &[Part], k: usize, byte: u8) -> u8
         ensures { result ≡ cond (nat_eq (letter_of (part (values_in symbol.now self.now.nodes parts.now) k)) 0) byte (letter_of (part (values_in symbol.now self.now.nodes parts.now) k)) }

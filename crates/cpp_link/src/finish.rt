@@ -41,8 +41,8 @@ impl Linked {
     ///
     /// # Errors
     ///
-    /// `BadReference` one byte before the place, at the `S`, where it names no candidate that it
-    /// may name.
+    /// `BadReference` one byte before the place, at the `S`, where the substitution names no
+    /// candidate that it may name.
     fn substitute(
         &mut self,
         symbol: &[u8],
@@ -114,7 +114,7 @@ impl Linked {
         Ok(made)
     }
 
-    /// What a common production that begins at a place closes to, with these parts.
+    /// The result of closing a common production that begins at a place, with these parts.
     ///
     /// # Errors
     ///
@@ -216,7 +216,7 @@ impl Linked {
         put(parts, frame.base, made)
     }
 
-    /// Likewise for rare productions: one body serves all of them, and zeroes the room for the nodes of each on every call.
+    /// Likewise for rare productions: one body serves all of them, and on every call it zeroes the room for the nodes of each.
     ///
     /// # Errors
     ///
@@ -249,8 +249,8 @@ impl Linked {
         put(parts, frame.base, made)
     }
 
-    /// Likewise, by a call of `finish_rare`. The room for its outcome is made only where it is
-    /// called.
+    /// Likewise, by a call of `finish_rare`. Room for the call's outcome is made only where the
+    /// call is made.
     ///
     /// # Errors
     ///
@@ -283,8 +283,8 @@ impl Linked {
     ///
     /// # Errors
     ///
-    /// `BadReference` at a substitution that names no candidate that it may name, and at a constructor that is inherited, `Memory`
-    /// where a list couldn't grow.
+    /// `BadReference` at a substitution that names no candidate that it may name, and at an inherited constructor; `Memory` where a list
+    /// couldn't grow.
     #[inline(never)]
     pub fn finish_rule(
         &mut self,

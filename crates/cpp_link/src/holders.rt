@@ -112,7 +112,8 @@ impl Linked {
         }
     }
 
-    /// Whether a list has a candidate for the `S` at this place, and its form fits there.
+    /// Whether a list has a candidate for the `S` at this place, and the candidate's form fits
+    /// there.
     fn can_be_named(&self, symbol: &[u8], place: u32, candidate: Option<Candidate>) -> bool
         requires table { IsTable (over symbol.now self.now.nodes) }
         requires there { IfSome candidate (λ c. c.node < length self.now.nodes.nodes) }
@@ -130,7 +131,7 @@ impl Linked {
         )
     }
 
-    /// Whether the candidate may have the head that is expected there.
+    /// Whether the candidate may have the head that is expected at this place.
     fn has_head(&self, symbol: &[u8], place: u32, candidate: Option<Candidate>) -> bool
         requires table { IsTable (over symbol.now self.now.nodes) }
         requires there { IfSome candidate (λ c. c.node < length self.now.nodes.nodes) }
@@ -201,7 +202,7 @@ impl Linked {
         }
     }
 
-    /// The candidate that these digits name, if it is the same by both lists.
+    /// The candidate that these digits name, if it is the same in both lists.
     pub(crate) fn named_by_both(&self, symbol: &[u8], digits: Span) -> Option<Candidate>
         requires digits { IsWithin digits symbol.now }
         requires candidates { AreCandidatesThere (length self.now.nodes.nodes) self.now.candidates }

@@ -1,6 +1,6 @@
 // The moments at which the driver calls C++'s language: at the root, where a rule opens, where a
-// token is taken, and where a rule closes. Something is done before each part, also before those
-// without a row (`Threading`).
+// token is taken, and where a rule closes. Something is done before each part, even one without a
+// row (`Threading`).
 
 ghost use Rattle.std.specs.Prelude.{◌≡◌, ℕ, ◌<◌, ◌≤◌, ◌∷◌, ◌++◌, [], List, length, drop, OnOk, OnErr};
 ghost use Rattle.sym_link.specs.Driving.{AreAll};

@@ -46,8 +46,8 @@ pub fn nodes_are_few()
     ensures { (tree : Tree) → IsTree wide (Kind 0) tree → cost owes tree ≤ 2 * length (spell tree) }
 {}
 
-/// Each candidate of a symbol that is read was made as a node, in addition to the four at the front of each table: a symbol has
-/// at least four nodes more than candidates.
+/// Each candidate of a symbol that is read was made as a node, in addition to the four at the front of each table: a symbol has at least
+/// four more nodes than candidates.
 pub fn candidates_are_few()
     ensures { CandidatesAreFew }
 {}

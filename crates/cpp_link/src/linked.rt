@@ -88,7 +88,7 @@ impl Linked {
         Ok(())
     }
 
-    /// A tree becomes a candidate, which is counted by these compilers, or none does.
+    /// A tree, if one is given, becomes a candidate, which is counted by these compilers.
     ///
     /// # Errors
     ///

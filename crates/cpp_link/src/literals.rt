@@ -1,4 +1,5 @@
-// Closing literals in constraints, and encodings that are passed over there: where the name has free parameters, the part is that name.
+// Closing literals in constraints, and encodings that are passed over there: if an encoding's name has free parameters, the part that is
+// made is that name.
 
 ghost use Rattle.std.specs.Prelude.{◌≡◌, ℕ, ◌<◌, ◌≤◌, List, length, true};
 ghost use Rattle.sym_link.specs.Linking.{HasRoom, owed_behind};
@@ -22,7 +23,7 @@ use sym_core::Refusal;
 use sym_link::language::Frame;
 use sym_link::parts::put;
 
-/// This name, or the part where there is none.
+/// This name, or the part if there is no name.
 #[tactic(auto, unfolding(crate::specs::Parts::value_of, crate::specs::LinkRescoping::name_or))]
 fn name_or(name: Option<u32>, part: Part) -> Part
     ensures is { (s : List ℕ) (ts : List Term) → value_of s ts result ≡ name_or ts name (value_of s ts part) }
@@ -35,7 +36,7 @@ fn name_or(name: Option<u32>, part: Part) -> Part
 }
 
 impl Linked {
-    /// The name in the part with this number, where it has free parameters.
+    /// The name in the part with this number, if that name has free parameters.
     fn open_name(&self, symbol: &[u8], parts: &[Part], number: usize) -> Option<u32>
         requires table { IsTable (over symbol.now self.now.nodes) }
         requires there { AreThere symbol.now (length self.now.nodes.nodes) parts.now }
@@ -49,8 +50,8 @@ impl Linked {
         None
     }
 
-    /// The frame's rule, an encoding that is passed over, closes: its meaning takes the place of its parts. If its name has free
-    /// parameters, its meaning is that name.
+    /// The frame's rule, an encoding that is passed over, closes: its meaning takes the place of its parts. If the encoding's name has free
+    /// parameters, the meaning is that name.
     ///
     /// # Errors
     ///

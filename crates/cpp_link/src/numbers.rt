@@ -63,8 +63,8 @@ pub fn signed_digits(symbol: &[u8], negative: bool, text: Span) -> Signed
     }
 }
 
-/// The number of a lambda or an unnamed type. For a number beyond 64 bits, which is refused where
-/// the type begins, it is the greatest of 64 bits.
+/// The number of a lambda or an unnamed type. A number beyond 64 bits, which is refused where the
+/// type begins, becomes the greatest one of 64 bits.
 #[tactic(auto, unfolding(cpp_grammar::specs::Values::local_number, crate::specs::LinkReading::in_64_bits))]
 pub fn local_number(symbol: &[u8], text: Span) -> u64
     requires { IsWithin text symbol.now }
@@ -76,7 +76,7 @@ pub fn local_number(symbol: &[u8], text: Span) -> u64
     }
 }
 
-/// The bytes from a place on, one more than a text has.
+/// The bytes from a place on, one byte more than a text has.
 pub fn from_byte(symbol: &[u8], place: u32, text: Span) -> Span
     requires place { place < length symbol.now }
     requires fits { FitsSymbol symbol.now }

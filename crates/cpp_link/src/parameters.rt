@@ -1,4 +1,4 @@
-// What is done before the second part of a parameter: what it names takes the place of its first part.
+// What is done before the second part of a parameter: the tree that the parameter names takes the place of the first part.
 
 ghost use Rattle.std.specs.Prelude.{◌≡◌, List, length, IfOk, IfErr, ◌∷◌, []};
 ghost use Rattle.sym_core.specs.Value.{counted_value};
@@ -22,7 +22,7 @@ impl Linked {
     ///
     /// # Errors
     ///
-    /// Those of `named_parameter`.
+    /// The errors of `named_parameter`.
     pub fn parameter(
         &self,
         symbol: &[u8],
@@ -58,7 +58,7 @@ impl Linked {
     ///
     /// # Errors
     ///
-    /// Those of `named_parameter`.
+    /// The errors of `named_parameter`.
     pub fn parameter_argument(
         &self,
         symbol: &[u8],

@@ -6,7 +6,7 @@ use cpp_references::candidates::Counted;
 use cpp_tree::node::{Adjustment, Mark, Node, Piece, Qualifiers, Signed, Thunk};
 use sym_core::Span;
 
-/// What a part of a symbol denotes. A tree is a node, and whether it is a candidate already or never becomes one.
+/// What a part of a symbol denotes. A tree is given by its node, and by whether it is a candidate already or never becomes one.
 #[derive(Clone, Copy)]
 pub enum Part {
     Nothing,
@@ -36,7 +36,7 @@ pub enum Part {
     },
 }
 
-/// Two trees, or fewer, that become candidates one after the other, and by which compilers each is counted.
+/// Two trees, or fewer, that become candidates one after the other, and which compilers count each of them.
 #[derive(Clone, Copy)]
 pub struct Marks {
     pub first: Option<u32>,
@@ -143,7 +143,7 @@ pub enum Step {
     },
 }
 
-/// What follows a rule: a tree that becomes a candidate or none, and the length of the packs.
+/// What follows a rule: a tree that becomes a candidate, if one does, and the length of the packs.
 #[derive(Clone, Copy)]
 pub struct AfterRule {
     pub candidate: Option<u32>,

@@ -1,5 +1,5 @@
-// Linking a symbol by the wide grammar: in a lambda's signature parameters are the lambda's own, a lambda with such parameters is
-// a piece of another sort, and a substitution denotes its tree with the arguments that are meant where it occurs.
+// Linking a symbol by the wide grammar: the parameters in a lambda's signature are the lambda's own; a lambda with such parameters is a
+// piece of another sort; and a substitution denotes its tree with the arguments that are meant where the substitution occurs.
 
 ghost use Rattle.std.specs.Prelude.{◌≡◌, ℕ, ◌-◌, ◌<◌, ◌≤◌, ◌^◌, ◌∷◌, [], MatchOption, not, ◌&&◌, ◌||◌, List, length, true, false, Ok, IfOk, IfErr};
 ghost use Rattle.sym_core.specs.Value.{counted_value};
@@ -77,7 +77,7 @@ fn held_node(node: Node) -> Counted
     }
 }
 
-/// The node of an inherited constructor among the candidates, where its base class is counted by GCC.
+/// The node of an inherited constructor among the candidates, if GCC counts its base class.
 #[tactic(auto, unfolding(crate::specs::Reads::constructor_by, cpp_references::specs::Around::counted_of))]
 fn constructor_by(by: Counted) -> Option<u32>
     ensures { result ≡ constructor_by (counted_of by) }
@@ -91,7 +91,8 @@ fn constructor_by(by: Counted) -> Option<u32>
     }
 }
 
-/// The marks of a name with its `M`: it becomes a candidate with the `M`, and before that unless it has become one as a prefix.
+/// The marks of a name with its `M`: the name becomes a candidate with the `M`, and before that without the `M`, unless it has become one
+/// as a prefix.
 fn holder_marks(kept: Surroundings, name: u32) -> Marks
     ensures is { (ts : List Term) (state : values.State) → with_marks (around_of ts kept) ts result state ≡ with_holder (around_of ts kept) (tree_at ts name) state }
     ensures first { (n : ℕ) → name < n → IsAliasBelow n result.first }
@@ -130,7 +131,8 @@ fn is_parameter_argument(production: Production) -> bool
     }
 }
 
-/// The number of a lambda's own parameter: all numbers past any argument count as one.
+/// The number of a lambda's own parameter: a number of more than 32 bits becomes the greatest one
+/// of 32 bits.
 #[tactic(auto, unfolding(cpp_grammar::specs::Rescoping::generic_number))]
 fn generic_number(counted: Option<u64>) -> u32
     ensures { (k : ℕ) → MatchOption counted (2 ^ 64 ≤ k) (λ v. v ≡ k) → result ≡ generic_number k }
@@ -147,12 +149,12 @@ fn generic_number(counted: Option<u64>) -> u32
 }
 
 impl Linked {
-    /// The rule of a row begins where not all compilers count alike: the form says what the `S` of a nested name, or of a type
-    /// under qualifiers, may name.
+    /// The rule of a row begins, where not all compilers count alike. If the rule is that of a nested name or of a type under qualifiers,
+    /// what its `S` may name is noted.
     ///
     /// # Errors
     ///
-    /// Those of `begin_rule`.
+    /// The errors of `begin_rule`.
     #[inline(never)]
     fn begin_apart(
         &mut self,
@@ -196,11 +198,12 @@ impl Linked {
         }
     }
 
-    /// Likewise. What goes through memory for the call is made only where it is called.
+    /// Likewise. The values that the call passes through memory are made only where the call is
+    /// made.
     ///
     /// # Errors
     ///
-    /// Those of `begin_rule`.
+    /// The errors of `begin_rule`.
     #[inline(always)]
     fn begin_by_call(
         &mut self,
@@ -224,7 +227,7 @@ impl Linked {
     ///
     /// # Errors
     ///
-    /// Those of `begin_rule`.
+    /// The errors of `begin_rule`.
     #[inline(always)]
     pub(crate) fn begin_wide(
         &mut self,
@@ -277,7 +280,8 @@ impl Linked {
         }
     }
 
-    /// Whether an encoding is passed over, and this is its name and has free parameters.
+    /// Whether an encoding is passed over and this name, which is the encoding's, has free
+    /// parameters.
     fn goes_on_open(&self, symbol: &[u8], kept: Surroundings, name: u32) -> bool
         requires table { IsTable (over symbol.now self.now.nodes) }
         requires below { name < length self.now.nodes.nodes }
@@ -286,7 +290,8 @@ impl Linked {
         kept.is_passed_over() && self.nodes.is_open(symbol, name)
     }
 
-    /// What surrounds the part after these of an encoding that begins at this place, in a lambda's signature or in a constraint.
+    /// The surroundings of the next part of an encoding, after these parts. The encoding begins at this place, in a lambda's signature or
+    /// in a constraint.
     #[inline(never)]
     fn in_encoding_apart(
         &self,
@@ -315,12 +320,12 @@ impl Linked {
         self.in_encoding(kept, place, closed_arguments(&self.nodes, symbol, name))
     }
 
-    /// What the wide reading does of its own before the next part, apart from the marks: at a parameter, what a lambda declares,
-    /// a constraint, an encoding, a name with its `M`, arguments after a base class or a concept's name, or a module.
+    /// What only the wide reading does before the next part, apart from the marks: at a parameter, what a lambda declares, a constraint, an
+    /// encoding, a name with its `M`, arguments after a base class or a concept's name, or a module.
     ///
     /// # Errors
     ///
-    /// `BadReference` at the `M` after arguments, and at the `S` of a module that isn't one, or not by all compilers.
+    /// `BadReference` at the `M` after arguments, and at an `S` that is read as a module but doesn't name one in both lists.
     fn step_apart(
         &self,
         symbol: &[u8],
@@ -383,7 +388,7 @@ impl Linked {
         }
     }
 
-    /// Whether a node's tree is a module's name. It has no free parameters.
+    /// Whether a node's tree is a module's name. A module's name has no free parameters.
     fn is_closed_module(&self, symbol: &[u8], node: u32) -> bool
         requires table { IsTable (over symbol.now self.now.nodes) }
         requires below { node < length self.now.nodes.nodes }
@@ -392,7 +397,7 @@ impl Linked {
         is_module(&self.nodes, symbol, node) && !self.nodes.is_open(symbol, node)
     }
 
-    /// The module that these digits name, if they name one by both lists.
+    /// The module that these digits name, if they name one in both lists.
     fn named_module(&self, symbol: &[u8], digits: Span) -> Option<u32>
         requires table { IsTable (over symbol.now self.now.nodes) }
         requires digits { IsWithin digits symbol.now }
@@ -472,11 +477,11 @@ impl Linked {
         }
     }
 
-    /// What the wide reading does of its own before the next part of the frame's rule, and the surroundings of that part.
+    /// What only the wide reading does before the next part of the frame's rule, and the surroundings of that part.
     ///
     /// # Errors
     ///
-    /// Those of `step_apart`, and `Memory` where a list couldn't grow.
+    /// The errors of `step_apart`, and `Memory` where a list couldn't grow.
     #[tactic(auto, using(crate::proofs::Viewing::own_there, crate::proofs::Viewing::open_kept))]
     #[inline(never)]
     pub(crate) fn before_apart(
@@ -511,12 +516,12 @@ impl Linked {
         self.nodes.is_open(symbol, candidate.node) && (kept.in_lambda() || elsewhere)
     }
 
-    /// A tree that was made elsewhere, with the arguments that are meant here: an alias with another argument, which is one
-    /// more node whatever the tree is.
+    /// A tree that was made elsewhere, with the arguments that are meant here. It becomes an alias with another argument, which is one more
+    /// node whatever the tree is.
     ///
     /// # Errors
     ///
-    /// Those of `argument_here`, and `Memory` where the nodes couldn't grow.
+    /// The errors of `argument_here`, and `Memory` where the nodes couldn't grow.
     fn restate(
         &mut self,
         symbol: &[u8],
@@ -552,8 +557,8 @@ impl Linked {
     ///
     /// # Errors
     ///
-    /// `BadReference` one byte before the place, at the `S`, where not all compilers name one candidate by its number, or it may not
-    /// name that one; `Memory` where the nodes couldn't grow.
+    /// `BadReference` one byte before the place, at the `S`, where compilers don't all name the same candidate by the number, or where the
+    /// substitution may not name that candidate; `Memory` where the nodes couldn't grow.
     pub(crate) fn substitute_rescoped(
         &mut self,
         symbol: &[u8],
@@ -593,7 +598,7 @@ impl Linked {
     ///
     /// # Errors
     ///
-    /// Those of `substitute_rescoped`, and `Memory` where the list of parts couldn't grow.
+    /// The errors of `substitute_rescoped`, and `Memory` where the list of parts couldn't grow.
     #[tactic(auto, using(crate::proofs::Viewing::own_there))]
     pub(crate) fn finish_substitution(
         &mut self,
@@ -644,7 +649,7 @@ impl Linked {
         }
     }
 
-    /// The part; a piece as `piece_as_generic_lambda` answers it.
+    /// The part itself; or, for a piece, what `piece_as_generic_lambda` answers.
     #[tactic(auto, unfolding(crate::specs::Parts::value_of))]
     fn as_generic_lambda(&self, symbol: &[u8], part: Part) -> Part
         requires table { IsTable (over symbol.now self.now.nodes) }

@@ -73,7 +73,7 @@ impl Linked {
         discriminator_of(part(parts, k))
     }
 
-    /// A name, with arguments where there are some.
+    /// A name, with its arguments if it has any.
     #[tactic(auto, unfolding(cpp_term::specs::Between::applied, crate::specs::Parts::outcome_value, crate::specs::Parts::value_of, cpp_tree::specs::Nodes::tree_of, crate::specs::Making::nodes_of_outcome, crate::specs::NodeCount::name_at_end, crate::specs::NodeCount::one_if_arguments, crate::specs::NodeCount::one_if_there))]
     #[inline(always)]
     pub fn applied(&self, symbol: &[u8], parts: &[Part], listed: bool) -> Outcome
@@ -218,7 +218,7 @@ impl Linked {
         }
     }
 
-    /// The part with this number, or another one if it is absent.
+    /// The part with the number `k`, or the part with the number `other` if the first is absent.
     pub fn either(&self, symbol: &[u8], parts: &[Part], k: usize, other: usize) -> Part
         ensures is { value_in symbol.now self.now.nodes result ≡ elim (is_there (part (values_in symbol.now self.now.nodes parts.now) k)) [ true ↦ part (values_in symbol.now self.now.nodes parts.now) k | false ↦ part (values_in symbol.now self.now.nodes parts.now) other ] }
         ensures there { AreThere symbol.now (length self.now.nodes.nodes) parts.now → IsThere symbol.now (length self.now.nodes.nodes) result }
@@ -229,7 +229,7 @@ impl Linked {
         self.given(symbol, parts, other)
     }
 
-    /// The name of an inherited constructor, with its own arguments where it has some.
+    /// The name of an inherited constructor, with its own arguments if it has any.
     #[tactic(auto, unfolding(cpp_term::specs::Between::inherited, crate::specs::Parts::outcome_value, crate::specs::Parts::value_of, cpp_tree::specs::Nodes::tree_of, cpp_tree::specs::Nodes::piece_of, crate::specs::Making::nodes_of_outcome))]
     pub fn inherited(&self, symbol: &[u8], prefix: Prefix, parts: &[Part]) -> Outcome
         requires table { IsTable (over symbol.now self.now.nodes) }

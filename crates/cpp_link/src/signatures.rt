@@ -39,8 +39,8 @@ fn is_nil(node: Node) -> bool
     }
 }
 
-/// The first element of a nonempty list and its other elements, and the argument under which both
-/// are.
+/// The first element of a nonempty list and its other elements, and the argument that applies to
+/// both.
 #[derive(Clone, Copy)]
 pub(crate) struct Split {
     pub first: u32,

@@ -176,7 +176,7 @@ impl Linked {
         text_of(part)
     }
 
-    /// A pack of the elements in a part: the empty one exists already.
+    /// A pack of the elements in a part. The empty pack exists already.
     #[tactic(auto, unfolding(crate::specs::Closes::pack_makes, cpp_term::specs::Between::no_items, cpp_term::specs::Values::tree_of, crate::specs::Parts::value_of, cpp_tree::specs::Nodes::tree_of, crate::specs::Reads::goes_on, crate::specs::Reads::behind_first, crate::specs::Reads::named_if, crate::specs::Reads::appended_if, crate::specs::NodeCount::makes_before, crate::specs::NodeCount::pack_before, crate::specs::NodeCount::one_if_there, cpp_term::specs::Values::is_there))]
     #[inline(always)]
     fn pack(&self, symbol: &[u8], elements: Part) -> Step
@@ -256,8 +256,8 @@ impl Linked {
     ///
     /// # Errors
     ///
-    /// `BadReference` at the arguments of a constructor that is inherited or of a concept, at what a lambda declares, and at a
-    /// constraint, which the ABI's grammar doesn't have.
+    /// `BadReference` at the arguments of an inherited constructor or of a concept, at what a lambda declares, and at a constraint: the
+    /// ABI's grammar has none of these.
     #[tactic(auto, unfolding(cpp_term::specs::Between::between))]
     #[inline(always)]
     fn step_begin(
@@ -288,7 +288,7 @@ impl Linked {
     ///
     /// # Errors
     ///
-    /// Those of a parameter, and `BadReference` at an `M` and at a module that an `S` names, which the ABI's grammar doesn't have.
+    /// The errors of a parameter, and `BadReference` at an `M` and at a module that an `S` names: the ABI's grammar has neither.
     #[tactic(auto, unfolding(cpp_term::specs::Between::between, cpp_term::specs::Between::index_of, cpp_term::specs::Between::parameter_so_far, cpp_term::specs::Between::argument_so_far, cpp_term::specs::Between::listed_so_far, cpp_term::specs::References::parameter_named))]
     #[inline(always)]
     fn step_behind_first(

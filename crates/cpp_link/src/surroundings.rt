@@ -12,7 +12,7 @@ ghost use Rattle.cpp_link.specs.Parts.{arguments_in, is_lambda, showing_in, arou
 use crate::linked::Linked;
 use crate::part::{Naming, Scope, Surroundings};
 
-/// What parameters name in the signature of a lambda: nothing, and what isn't shown around it isn't shown there either.
+/// What parameters name in the signature of a lambda: nothing. A signature within something that isn't shown isn't shown either.
 #[tactic(auto, unfolding(crate::specs::Parts::arguments_in, crate::specs::Parts::is_lambda, crate::specs::Parts::showing_in))]
 #[inline(always)]
 fn in_signature_of(scope: Scope) -> Scope

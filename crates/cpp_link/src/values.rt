@@ -297,7 +297,7 @@ impl Linked {
         qualifiers_of(part(parts, k))
     }
 
-    /// The mark of a name or a signature of the part with this number.
+    /// The mark of the name or the signature in the part with this number.
     #[inline(always)]
     pub fn reference(&self, symbol: &[u8], parts: &[Part], k: usize) -> Mark
         ensures { nodes.mark_of result ≡ ref_of (part (values_in symbol.now self.now.nodes parts.now) k) }

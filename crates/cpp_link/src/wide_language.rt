@@ -1,5 +1,5 @@
-// The moments at which the driver calls C++'s language by the wide grammar. Each does what it does by the ABI's grammar, except
-// for lambdas, the parameters of their signatures, names with an `M`, substitutions, and encodings of literals in constraints.
+// The moments at which the driver calls C++'s language by the wide grammar. At each of them the same is done as by the ABI's grammar,
+// except for lambdas, the parameters of their signatures, names with an `M`, substitutions, and encodings of literals in constraints.
 
 ghost use Rattle.std.specs.Prelude.{◌≡◌, ℕ, ◌<◌, ◌≤◌, ◌∷◌, ◌++◌, [], List, length, drop, OnOk, OnErr};
 ghost use Rattle.sym_link.specs.Driving.{AreAll};
@@ -52,12 +52,11 @@ fn steps_apart(production: Production, kept: Surroundings, before: usize) -> boo
 
 impl Rescoping {
     /// Does what is to be done before the next part of the frame's rule, which is of this
-    /// production, and answers the surroundings of that part. It may be something that only the
-    /// wide reading does.
+    /// production, even if only the wide reading does it. Answers the surroundings of that part.
     ///
     /// # Errors
     ///
-    /// Those of `before_part`.
+    /// The errors of `before_part`.
     #[inline(always)]
     fn between_apart(
         &mut self,
@@ -90,14 +89,14 @@ impl Rescoping {
         }
     }
 
-    /// Does what is to be done before the next part of the frame's rule, if anything is, and
+    /// Does what is to be done before the next part of the frame's rule, if there is anything, and
     /// answers the surroundings of that part. The common productions have code of their own.
     ///
     /// # Errors
     ///
-    /// Those of `before_part`.
-    // It is a call, with all that it does inlined in it, so that the driver's loop stays small. It
-    // repeats the common productions, so that productions are told apart only once.
+    /// The errors of `before_part`.
+    // This function is called, with all that it does inlined in it, so that the driver's loop stays
+    // small. It repeats the common productions, so that productions are told apart only once.
     #[inline(never)]
     fn between_by_step(
         &mut self,
@@ -151,11 +150,11 @@ impl Rescoping {
         }
     }
 
-    /// Likewise. The room for the call's outcome is made only where it is called.
+    /// Likewise. Room for the call's outcome is made only where the call is made.
     ///
     /// # Errors
     ///
-    /// Those of `before_part`.
+    /// The errors of `before_part`.
     #[inline(always)]
     fn between_by_call(
         &mut self,

@@ -4,7 +4,7 @@ use Rattle.sym_parts.specs.Marked as marks
 use Rattle.sym_parts.specs.declared.role.Role.TheVariants as role
 use Rattle.cpp_parts.specs.declared.numbering.Numbering.TheVariants as numbering
 
--- two marked texts in turn have as many marks as both together
+-- two marked texts in a row have as many marks as the two have apart
 joined : (m others : Marked) → marks_in (m before others) ≡ marks_in m + marks_in others
 unfolding marks_in ◌before◌
 joined marks.done others = omega arith

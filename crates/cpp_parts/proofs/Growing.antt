@@ -4,7 +4,7 @@ use Rattle.sym_parts.specs.Marked.{Marked, text, marked, text_of, ◌before◌}
 use Rattle.sym_parts.specs.Marked as marks
 use Rattle.cpp_parts.specs.declared.task.Task.TheVariants as task
 
--- of three marked texts in a row, the first two may be put together first
+-- the first two of three marked texts in a row may be put together first
 pub before-assoc : (m n others : Marked) → (m before n) before others ≡ m before (n before others)
 unfolding ◌before◌
 before-assoc marks.done n others = refl
@@ -71,7 +71,7 @@ module _ (y : ReadSymbol) (most : ℕ) where
         };
   }
 
-  -- a task that leads to marks adds these
+  -- a task that leads to marks adds these marks
   grow-task : (old new : List Task) (next : Task) (m : Marked) → new ≡ next ∷ old → marks_of_task y next ≡ marks_of m → IsTask y most next → Grows y most old new m (weight_of_task y next)
   unfolding marks_of_tasks weight_of_tasks
   grow-task old new next m is leads is_task = record {

@@ -10,7 +10,7 @@ first t = get_or (fields_of t).parts 0 absent
 some-same : (a b : Term) → Some a ≡ Some b → a ≡ b
 some-same a b same = cc (same)
 
--- a property that both productions have is also one of the production that a test chooses
+-- a property that both productions have is also a property of the production that a test chooses
 chosen : (b : Bool) (f g : Fields) (P : ℕ → Type 0) → P f.production → P g.production → P (if b then f else g).production
 chosen true f g P p q = p
 chosen false f g P p q = q
@@ -145,7 +145,7 @@ object-other (local a b None) h i = absurd (h refl)
 object-other (local a b (Some digits)) h i = absurd (i refl)
 object-other t h i = refl
 
--- the fields of a special name of a name, by whether its letter is that of a guard variable
+-- the fields of a special name that belongs to a name, by whether its letter is that of a guard variable
 abbrev fields_by : (is_guard : Bool) (letter : ℕ) (a : Term) (q : Qualifiers) (mark : RefQualifier) → Fields
 fields_by is_guard letter a q mark =
     if is_guard then fields GUARD (qualifiers_number q) (mark_number mark) [] (a ∷ []) else fields OF_NAME letter (qualifiers_number q + 8 * mark_number mark) [] (a ∷ [])

@@ -1,12 +1,12 @@
 -- Parts that are split into the first one and the others.
 use Rattle.cpp_parts.proofs.Basics.{◌≡◌, ℕ, ◌+◌, ◌≤◌, List, ◌∷◌, length, refl, sym, ap, ◌∙◌, arith, length-append, All-head, All-tail, All-same, Context, ReadSymbol, unshared_of, bytes_of_part, MayBeAsked, Item, Part, Sub, IsText, Unshared, item, bytes, text_of, cost_of, cost_of_parts, length_of_text, printed_by, ArePayable, IsPayable}
 
--- a part that is no item is a text
+-- a part that isn't an item is a text
 text_unless : (part : Part Context) → ((x : Item Context) → part ≡ Sub x → ⊥) → IsText part
 text_unless (Sub x) no_item = absurd (no_item x refl)
 text_unless _ no_item = tt
 
--- a text comes first in what is printed
+-- if the first part is a text, its bytes come first in what is printed
 printed-text : (y : ReadSymbol) (part : Part Context) (rest : List (Part Context)) → IsText part → printed_by y (part ∷ rest) ≡ bytes (bytes_of_part y part) (printed_by y rest)
 printed-text y (Sub x) rest is_text = elim is_text [ ]
 printed-text y _ rest is_text = refl
@@ -42,7 +42,8 @@ split-text y most parts rest first is no_item payable =
     let costs = costs-text (printed_by y parts) most (bytes_of_part y first) (printed_by y rest) prints payable.1 in
     (prints, is_text, All-head (MayBeAsked y) first rest may, costs.0, (All-tail (MayBeAsked y) first rest may, costs.1))
 
--- once an item is added to a sum of lengths: the sum includes the item's text, and the rest may cost what is left
+-- once the length of an item's text is added to a sum, the sum and the length of the rest's text make the whole length, and the sum and the
+-- rest's cost are at most `most`
 pub adds-item : (u one rest : Unshared) (total n all most : ℕ) → u ≡ item one rest → total + length (text_of u) ≡ all → total + cost_of_parts u ≤ most → n ≡ length (text_of one)
     → ((total + n) + length (text_of rest) ≡ all) × ((total + n) + cost_of_parts rest ≤ most)
 adds-item u one rest total n all most is sum paid long =

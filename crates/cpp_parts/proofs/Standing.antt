@@ -62,7 +62,7 @@ after-item r o t u one rest is = sym (ap (elements_after r o t) is)
 
 -- ## Texts that are cut
 
--- the lengths of a text without its last byte and of this byte alone, which an empty text doesn't have
+-- the lengths of a text without its last byte, and of this byte alone; an empty text has no last byte
 pub last-lengths : (b : List ℕ) (count blank : ℕ) → length b ≡ count → blank ≡ min count 1
     → (blank ≡ length (drop (length b - 1) b)) × (length (take (length b - 1) b) ≡ count - blank)
 last-lengths b count blank long is =

@@ -23,7 +23,7 @@ is_constructor_by p = is_any p CONSTRUCTOR STD_CONSTRUCTOR NESTED_CONSTRUCTOR ||
 unfoldable pub is_operator_by : (production : ℕ) → Bool
 is_operator_by p = is_any p OPERATOR STD_OPERATOR NESTED_OPERATOR
 
--- the number of the part that has a tree's own name, by the tree's production; none where the tree is an own name
+-- the number of the part that has a tree's own name, by the tree's production; none if the tree is itself an own name
 unfoldable pub inner_part_by : (production : ℕ) → Option ℕ
 inner_part_by p =
     if nat_eq p LOCAL || nat_eq p NUMBERED_LOCAL then Some 1
@@ -38,7 +38,7 @@ called_kind in_lambda is_call = if in_lambda && is_call then kind.Lambda else ki
 unfoldable pub local_kind : (is_string : Bool) → NameKind
 local_kind is_string = if is_string then kind.StringLiteral else kind.LocalVariable
 
--- the kind of a function by the production of its own name, if that isn't a lambda's
+-- the kind of a function by the production of its own name, if the name isn't a lambda's
 unfoldable pub piece_kind_by : (production : ℕ) → NameKind
 piece_kind_by p =
     if is_constructor_by p then kind.Constructor

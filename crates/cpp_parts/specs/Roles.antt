@@ -19,7 +19,7 @@ unfoldable pub alone_if_any : Role → List ℕ → (rest : Marked) → Marked
 alone_if_any r [] rest = rest
 alone_if_any r (b ∷ bs) rest = alone r only (b ∷ bs) rest
 
--- the words of a special name, after those of this many others; the blank at their end is in no part
+-- the words of a special name, after the words of this many others; the blank at the end of the words is in no part
 unfoldable pub words : (specials : ℕ) → List ℕ → (rest : Marked) → Marked
 words specials b rest = alone role.Special (numbered specials) (take (length b - 1) b) (text (drop (length b - 1) b) rest)
 
@@ -139,7 +139,8 @@ arguments t printed = plain printed
 
 -- ## Names and encodings
 
--- A name before this many of its tags: an instance has its template's name and the arguments, a tagged name its name and a tag.
+-- A name before this many of its tags. An instance has its template's name and the arguments; a tagged name has its name and a
+-- tag.
 unfoldable pub name : (tags : ℕ) → Term → Unshared → Marked
 name tags (instance template args) (item inner rest) = name tags template inner before arguments args rest
 name tags (tagged of_structor inner tag) (item printed rest) = name (tags + 1) inner printed before whole role.AbiTag (numbered tags) rest

@@ -152,7 +152,7 @@ pub(crate) fn push_special(
     }
 }
 
-/// A variable: its name, and what follows that.
+/// A variable: its name, and what follows the name.
 ///
 /// # Errors
 ///
@@ -244,7 +244,7 @@ pub(crate) fn push_encoding(
     }
 }
 
-/// The suffix of a clone, which has parentheses around it.
+/// The suffix of a clone, in parentheses.
 ///
 /// # Errors
 ///

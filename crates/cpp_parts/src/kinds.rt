@@ -80,7 +80,7 @@ fn is_operator(found: u16) -> bool
     )
 }
 
-/// The number of the part that has a tree's own name, by the tree's production; none where the tree is an own name.
+/// The number of the part that has a tree's own name, by the tree's production; none if the tree is itself an own name.
 #[tactic(auto, unfolding(crate::specs::KindNumbers::inner_part_by))]
 fn inner_part(found: u16) -> Option<u32>
     ensures { result ≡ inner_part_by found }
@@ -98,7 +98,7 @@ fn inner_part(found: u16) -> Option<u32>
     None
 }
 
-/// The earlier node that has the same own name; none where the node is an own name.
+/// The earlier node that has the same own name; none if the node is itself an own name.
 fn inner_node(y: &Symbol, node: u32) -> Option<u32>
     requires { node < length y.now.table.nodes }
     ensures { IsInner y.now node result }

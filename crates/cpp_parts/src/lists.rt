@@ -54,7 +54,7 @@ pub(crate) fn push_lone(
     tasks.push(Task::Begin(role, ordinal, before + after))
 }
 
-/// An element of a list that has elements of its own, if it prints only these.
+/// A list's element that has elements of its own, if the element prints only these.
 ///
 /// # Errors
 ///

@@ -95,7 +95,7 @@ pub(crate) fn push_in_std(
     push_alone(y, tasks, Role::Scope, ONLY, front, most)
 }
 
-/// An abbreviation, by its text and what follows that.
+/// An abbreviation, by its text and what follows the text.
 ///
 /// # Errors
 ///

@@ -40,7 +40,7 @@ pub(crate) fn push_plain(
     tasks.push(Task::Skip(length))
 }
 
-/// One part, to which all bytes that these parts print belong.
+/// One part, which has all bytes that these parts print.
 ///
 /// # Errors
 ///

@@ -45,7 +45,7 @@ impl Model for Tasks {
 }
 
 impl Tasks {
-    /// Nothing to be done.
+    /// No tasks to be done.
     pub(crate) fn new(alloc: Global) -> Tasks
         ensures { result ≡ [] }
     {

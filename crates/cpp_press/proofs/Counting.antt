@@ -1,4 +1,5 @@
--- If components are trees of nodes, at most as many of them as there are nodes have a tree that no earlier component has.
+-- If components are trees of nodes, the number of components with a tree that no earlier component has is at most the
+-- number of nodes.
 use Rattle.cpp_press.proofs.Basics.{◌≡◌, ℕ, ◌+◌, ◌<◌, ◌≤◌, length, List, [], ◌∷◌, ◌++◌, Bool, true, false, refl, ap, arith, sym, subst, ◌∙◌, ◌||◌, IsDistinct, list_any, AllByRecursion, eqb, eqb-true, Term, ReadSymbol, whole_of, same_tree, spelled_components, Component, tree-itself, plain_at, AreOfNodes, HasFewComponents}
 use Rattle.std.proofs.lemmas.Map.Keys.{IsDistinct-cons}
 use Rattle.std.proofs.lemmas.Map.Steps.{length-le_from_distinct_below}

@@ -240,7 +240,7 @@ looked-up keys = record {
 
 -- ## The nodes of a symbol after other nodes
 
--- a part has the same number by the first nodes of its own symbol as by the first nodes of all nodes so far
+-- a part's number in the list of its own symbol's first nodes is its number in the list of the first nodes of all nodes so far
 part-after : (one at : ℕ → Term) (firsts own : List ℕ) (part : Option Term) (m : ℕ) → ((i : ℕ) → i < length own → at (length firsts + i) ≡ one i)
     → IsPartNumber one own part m → IsPartNumber at (firsts ++ own) part m
 part-after one at firsts own None m next is = is
@@ -349,7 +349,7 @@ get_or-any (x ∷ l) (suc i) d e low = get_or-any l i d e (omega (arith, low))
 pub item-is : (l : List ℕ) (i at a : ℕ) → a ≡ get_or l i a → i ≡ at → at < length l → a ≡ number_at l at
 item-is l i at a is same low = is ∙ ap (λ k. get_or l k a) same ∙ get_or-any l at a 0 low
 
--- two whole trees are equal exactly if their roots have one first node
+-- two whole trees are equal exactly if their roots have the same first node
 pub told-one : (one other : ReadSymbol) (firsts others : List ℕ) (first : Key → Option ℕ) (a b : ℕ) → length firsts ≡ length one.table.nodes
     → length others ≡ length other.table.nodes → one.root < length one.table.nodes → other.root < length other.table.nodes
     → AreFirsts (both_at one other) (IsKey (both_at one other)) (firsts ++ others) first

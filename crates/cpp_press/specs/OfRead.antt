@@ -10,7 +10,7 @@ use Rattle.cpp_link.specs.NodeCount.{are_nodes}
 
 -- How many components are spelled out.
 pub record HasFewComponents (y : ReadSymbol) : Type 0 where
-  -- Apart from components whose tree was spelled out before, there are at most as many components as nodes.
+  -- Apart from components whose trees were spelled out before, there are at most as many components as nodes.
   pub apart : length (spelled_components (whole_of y)) ≤ length y.table.nodes + length (repeated_components (whole_of y))
   -- If some bytes are read as the symbol's tree, and their shape has as many nodes as the symbol, each component has a
   -- node of its own, apart from the four nodes with which a table begins.

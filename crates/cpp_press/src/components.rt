@@ -21,7 +21,8 @@ pub struct Likeness {
 /// How many components there are, and the number of the first component with each likeness.
 #[derive(Drop)]
 pub struct Components {
-    /// The number of the first component that belongs to no encoding, at the number of its tree.
+    /// The numbers of the first components that belong to no encoding, each at the number of its
+    /// tree.
     pub closed: Vec<Option<u64>>,
     /// All other first components.
     pub first: BTreeMap<Likeness, u64>,

@@ -72,7 +72,7 @@ fn part_number(firsts: &[u32], part: Option<u32>) -> u32
     }
 }
 
-/// The key of a node, by the first node that equals each node before it.
+/// The key of a node, given the first equal node of each node before it.
 fn key_of<'a>(symbol: &'a Symbol, firsts: &[u32], node: u32) -> Key<'a>
     requires node { node < length symbol.now.table.nodes }
     requires before { length firsts.now ≡ node }
@@ -143,8 +143,8 @@ pub(crate) fn first_nodes(alloc: Global, symbol: &Symbol) -> Result<Vec<u32>, Re
     Ok(firsts)
 }
 
-/// Numbers the nodes of a C++ symbol. A tree that no earlier node has gets the next number, counted from 0. Each node takes two
-/// look-ups: one by what equal nodes have in common, and one of the first of these nodes in a table.
+/// Numbers the nodes of a C++ symbol. A tree that no earlier node has gets the next number, counted from 0. Each node takes two look-ups:
+/// one for its first equal node, by what equal nodes have in common, and one for that node's number in a table.
 ///
 /// # Errors
 ///

@@ -1,6 +1,6 @@
 -- What a reader reads fits: it can be spelled so that it is read again, wherever the reader's candidates are. `specs/Fits` says
--- what fits, and `Read` what it means that a tree that was read fits. The other files have the productions, by sorts: if the
--- parts of a tree fit, so does the tree, wherever its rule may be. `ByKind` uses these lemmas production by production.
+-- what fits, and `Read` says when a tree that was read fits. The other files have the productions, by sorts: if the parts of a
+-- tree fit, so does the tree, wherever its rule may be. `ByKind` uses these lemmas production by production.
 pub mod Packs
 pub mod FunctionsStand
 pub mod Read

@@ -74,7 +74,7 @@ IsNeverReferred own _ = ⊥
 unfoldable pub spelled_components : Term → List Component
 spelled_components t = ((ways_of 0 t).as_encoding 0 []).components
 
--- the same components, each with whether it was compared with those before it
+-- the same components, each with a mark that says whether it was compared with those before it
 unfoldable pub marked_components : Term → List Marked
 marked_components t = ((marked.ways_of 0 t).as_encoding 0 []).components
 
@@ -83,13 +83,13 @@ abbrev pub ComponentsAreMarked : Type 0
 ComponentsAreMarked =
     (t : Term) → (((marked.ways_of 0 t).as_encoding 0 []).bytes ≡ pressed t) × (unmarked (marked_components t) ≡ spelled_components t)
 
--- no component is equal to the tree, as trees of the encoding are compared
+-- no component is equal to the tree, which is compared as a tree of this encoding
 abbrev pub IsNew : (encoding : ℕ) → Term → List Component → Type 0
 IsNew encoding own [] = Unit {0}
 IsNew encoding own (c ∷ cs) = (is_same encoding own c ≡ false) × IsNew encoding own cs
 
 -- A component that was compared with those before it is equal to none of them. A component that wasn't compared is a template
--- name at a place in the tree where no reference can be.
+-- name at a place in the tree where no reference can occur.
 abbrev pub IsApart : (tree : Term) → (before : List Marked) → Marked → Type 0
 IsApart tree before c =
     ((c.was_compared ≡ true) × IsNew c.component.encoding c.component.tree (unmarked before))

@@ -1,4 +1,4 @@
--- Where a tree can be spelled so that it is read again: each component in it has an equal component before it, or can be spelled
+-- Where a tree can be spelled so that it is read back: each component in it has an equal component before it, or can be spelled
 -- out in its place, after the components before it. The ways here are those of `ways_of`.
 use Rattle.std.specs.Prelude.{◌≡◌, ℕ, ◌+◌, ◌<◌, ◌⊎◌, length, List, [], ◌∷◌, ◌++◌, Option, Some, None, Bool, true, false, cond, not, ◌&&◌, ◌||◌, ◌^◌, nat_lt, codes}
 use Rattle.sym_core.specs.declared.NumberKind.TheVariants.{Decimal, Digits}
@@ -35,7 +35,7 @@ pub record MayBeReferred (around : Around) (allowed : Option ℕ) (t : Term) : T
 abbrev pub Standing : Type 1
 Standing = (place : ℕ) → List Component → Type 0
 
--- what may hold in surroundings that allow packs a length, at a place after components
+-- what may hold in surroundings that allow a length for packs, at a place after components
 abbrev pub Fitting : Type 1
 Fitting = Around → (allowed : Option ℕ) → Standing
 
@@ -80,7 +80,7 @@ either false one other = other
 
 -- ## Where types are
 
--- anywhere; right under qualifiers; an item of a list; a parameter of a function type; the type of a literal
+-- anywhere; directly under qualifiers; an item of a list; a parameter of a function type; the type of a literal
 pub data Slot : Type 0 where
   any_type : Slot
   bare_type : Slot
@@ -127,7 +127,8 @@ pub record NamesArgument (around : Around) (allowed : Option ℕ) (k : ℕ) : Ty
 
 -- ## Where pieces of names are
 
--- the pieces that may be a type's name, come after St in a type, be the first of a name between N and E, or be a local type's
+-- the pieces that may be a type's name, come after St in a type, be the first piece of a name between N and E, or be a local
+-- type's name
 unfoldable pub begins_name : Term → Bool
 begins_name (source internal name) = true
 begins_name (lambda parameters k) = true
@@ -180,7 +181,7 @@ IsSpellableSuffix [] = Unit {0}
 IsSpellableSuffix (dot ∷ []) = ⊥
 IsSpellableSuffix (dot ∷ b ∷ bs) = (dot ≡ 46) × (b < 256) × (choose Kind.SuffixFirst b ≡ Some Production.SuffixByte) × AreSuffixBytes bs
 
--- each mark except that of an explicit object, a mark that only the wide grammar reads
+-- each mark except that of an explicit object, which only the wide grammar reads
 abbrev pub IsAbiMark : RefQualifier → Type 0
 IsAbiMark explicit_object = ⊥
 IsAbiMark _ = Unit {0}
@@ -274,7 +275,8 @@ abbrev pub IsWithoutLetters : List ℕ → Type 0
 IsWithoutLetters [] = Unit {0}
 IsWithoutLetters (l ∷ ls) = ⊥
 
--- a name that needs an N only for letters: without letters it is spelled alone, and after letters between N and E
+-- a name that needs an N only for letters: without letters it is spelled alone; with letters it is spelled between N
+-- and E, after the letters
 unfoldable pub by_letters : (letters : List ℕ) → (own between : Fitting) → Fitting
 by_letters [] own between = own
 by_letters (l ∷ ls) own between = behind_bytes (codes "N" ++ l ∷ ls) between
@@ -282,7 +284,8 @@ by_letters (l ∷ ls) own between = behind_bytes (codes "N" ++ l ∷ ls) between
 -- where a tree can be
 unfoldable pub fits_of : Term → Fits
 fits_of (symbol e suffix) = fits_nowhere
--- encodings: the own name of an encoding has no scope, and its types have the name's last arguments as their scope
+-- encodings: an encoding's own name has no scope, and the encoding's types have the last arguments of that name as
+-- their scope
 fits_of (function name q ref returned parameters) =
     encoding_fits (λ allowed here cs.
     (fits_of name).as_name q ref (in_name here) allowed here cs
@@ -424,7 +427,7 @@ fits_of (member_pointer class member) =
     type_fits (member_pointer class member) (λ slot around allowed place cs.
     (fits_of class).as_type any_type around allowed (place + 1) cs
     × Behind (text (codes "M") and (ways_of around.encoding class).as_type) ((fits_of member).as_type any_type around allowed) place cs)
--- right under qualifiers a function type is no component
+-- a function type directly under qualifiers is no component
 fits_of (function_type c_linkage noexcept ref returned parameters) =
     let marks : List ℕ = cond noexcept (codes "Do") [] ++ codes "F" ++ cond c_linkage (codes "Y") [] in
     let spelled : Fitting = λ around allowed place cs.

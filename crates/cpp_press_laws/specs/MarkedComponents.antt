@@ -1,6 +1,6 @@
 -- Components that say whether they were compared. Pressing compares a tree with the components before it wherever a
--- reference to one of them may be. Where no reference may be, the tree is spelled out and becomes a component, whatever
--- comes before.
+-- reference to one of them may occur. Where no reference may occur, the tree is spelled out and becomes a component,
+-- whatever comes before.
 use Rattle.std.specs.Prelude.{ℕ, List, [], ◌∷◌, ◌++◌, Bool, true, false, codes, Some, None}
 use Rattle.sym_spell.specs.Pressing as spell
 use Rattle.sym_spell.specs.Pressing.{◌and◌, text}

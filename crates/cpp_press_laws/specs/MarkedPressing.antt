@@ -11,7 +11,7 @@ use Rattle.cpp_press_laws.specs.Pressing.{is_operator, is_nested, is_one_piece}
 
 -- How a tree is spelled depends on where it is, so each tree has these ways. Only the ways in which it can be spelled count.
 pub record Ways : Type 0 where
-  -- a type; one right under qualifiers; a prefix; a name between N and E; a piece of a name
+  -- a type; a type directly under qualifiers; a prefix; a name between N and E; a piece of a name
   pub as_type : Spelling
   pub under_qualifiers : Spelling
   pub as_prefix : Spelling

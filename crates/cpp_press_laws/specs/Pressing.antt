@@ -1,5 +1,6 @@
--- The pressed spelling of what a C++ symbol denotes: the tree in its order. Each component that equals an earlier one
--- is a reference to the first one that it equals. Everything else is spelled out, without an N that it doesn't need.
+-- The pressed spelling of what a C++ symbol denotes: the parts of its tree in order. Each component that equals an
+-- earlier one is a reference to the first one that it equals. Everything else is spelled out, without an N that it
+-- doesn't need.
 use Rattle.std.specs.Prelude.{ℕ, ◌-◌, List, [], ◌∷◌, ◌++◌, Bool, true, false, cond, ◌&&◌, codes, Option}
 use Prim.Native.String.{String}
 use Rattle.sym_spell.specs.Pressing.{◌and◌, text, nothing}
@@ -10,7 +11,7 @@ use Rattle.cpp_press_laws.specs.Components.{Spelling, ended, referred, component
 
 -- How a tree is spelled depends on where it is, so each tree has these ways. Only the ways in which it can be spelled count.
 pub record Ways : Type 0 where
-  -- a type; one right under qualifiers; a prefix; a name between N and E; a piece of a name
+  -- a type; a type directly under qualifiers; a prefix; a name between N and E; a piece of a name
   pub as_type : Spelling
   pub under_qualifiers : Spelling
   pub as_prefix : Spelling
@@ -152,7 +153,7 @@ is_behind_encoding (within prefix p) = is_encoding prefix
 is_behind_encoding _ = false
 
 -- The entity of a local name is one piece after its encoding, with or without tags and arguments, or is between N and E. No
--- reference can be there: a template name is spelled out even where an equal one comes before.
+-- reference can occur there: a template name is spelled out even where an equal one comes before.
 unfoldable pub is_one_piece : Term → Bool
 is_one_piece (within prefix p) = is_encoding prefix
 is_one_piece (instance (within prefix p) arguments) = is_encoding prefix

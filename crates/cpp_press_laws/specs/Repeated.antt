@@ -19,7 +19,8 @@ repeated before (c ∷ cs) = elim (is_spelled c.tree before) [ true ↦ c ∷ re
 abbrev pub repeated_components : Term → List Component
 repeated_components t = repeated [] (spelled_components t)
 
--- each of these has free parameters, or is a template name at a place in the tree where no reference may be
+-- each repeated component has free parameters, or is a template name at a place in the tree where no reference may
+-- occur
 abbrev pub HaveReasons : Term → (repeated : List Component) → Type 0
 HaveReasons tree [] = Unit {0}
 HaveReasons tree (c ∷ cs) = ((is_open c.tree ≡ true) ⊎ IsNeverReferred c.tree tree) × HaveReasons tree cs

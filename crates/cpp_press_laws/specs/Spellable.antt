@@ -17,7 +17,8 @@ use Rattle.cpp_grammar.specs.Values.{Around, State, letter, piece, normal, is_ze
 use Rattle.cpp_grammar.specs.Between.{Continuation, between}
 use Rattle.cpp_grammar.specs.Unfolding.{opening, close}
 
--- a name that can be spelled: its bytes are bytes of names, its length has at most nine digits, and its first byte is no digit
+-- a name that can be spelled: its bytes are bytes of names, its length has at most nine digits, and its first byte isn't a
+-- digit
 pub record IsSpellableName (name : List ℕ) : Type 0 where
   pub each : AreNameBytes Cpp name
   pub short : length name ≤ 999999999

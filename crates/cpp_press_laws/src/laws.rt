@@ -16,7 +16,7 @@ pub fn pressed_is_read()
     ensures { PressedIsRead }
 {}
 
-/// If a pressed spelling is read as a tree, this tree is pressed to the same bytes, if they are at most 2^64 - 1.
+/// If a pressed spelling of at most 2^64 - 1 bytes is read as a tree, this tree is pressed to the same bytes.
 pub fn pressed_once()
     ensures { PressedOnce }
 {}
@@ -43,24 +43,23 @@ pub fn trees_are_compared()
     ensures itself { (tree : Term) → same_tree tree tree ≡ true }
 {}
 
-/// A component that was compared with those before it is equal to none of them; a component with
-/// free parameters was compared only with those of its own encoding. Only a template name can be a
-/// component that wasn't compared, and only if its arguments end the name of an entity after
-/// `Z..E`, or an encoding's own name with qualifiers or a reference mark: no reference may be there.
-/// The spelling with these marks is the pressed spelling, byte by byte.
+/// A component that was compared with those before it is equal to none of them; a component with free parameters was compared only with
+/// those of its own encoding. Only a template name can be a component that wasn't compared, and only if its arguments end the name of an
+/// entity after `Z..E`, or an encoding's own name with qualifiers or a reference mark: no reference may occur there. The spelling that
+/// marks which components were compared is the pressed spelling, byte by byte.
 pub fn components_are_apart()
     ensures marked { ComponentsAreMarked }
     ensures apart { ComponentsAreApart }
 {}
 
 /// If the tree of a component is spelled out already, in whatever encoding, the component has free
-/// parameters, or is a template name at a place in the symbol where no reference may be.
+/// parameters, or is a template name at a place in the symbol where no reference may occur.
 pub fn repeated_components_have_reasons()
     ensures { RepeatedComponentsHaveReasons }
 {}
 
-/// At most as many components of a symbol's tree are spelled out as the symbol has candidates: where the symbol has a
-/// reference, the spelling has one again, and what the symbol spells out is spelled out at most once.
+/// At most as many components of a symbol's tree are spelled out as the symbol has candidates: where the symbol has a reference, the
+/// spelling has one too, and what the symbol spells out is spelled out at most once.
 pub fn components_are_few()
     ensures { ComponentsAreFew }
 {}

@@ -1,5 +1,5 @@
-//! C++ symbols spelled again with each repeated part as a reference, so that symbols of one thing have the same bytes.
-//! Here is what their pressed spelling is and what holds of it; `cpp_press` writes it.
+//! C++ symbols spelled again with each repeated part as a reference, so that symbols of one thing have the same bytes. This crate defines
+//! the pressed spelling and says what holds of it; `cpp_press` writes it.
 #![tactic(auto)]
 
 mod laws;

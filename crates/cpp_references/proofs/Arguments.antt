@@ -16,7 +16,7 @@ pub some_closed : (t : Term) → is_open t ≡ false → closed_arguments t ≡ 
 unfolding closed_arguments
 some_closed t is = ap (λ b. elim b as (λ _. Option Term) [ true ↦ None | false ↦ arguments_of t ]) is
 
--- no parameter is free in an argument of a name in which none is
+-- an argument of a name without free parameters has no free parameters
 pub argument_closed : (t a : Term) → is_open t ≡ false → arguments_of t ≡ Some a → is_open a ≡ false
 argument_closed t a closed is = subst (λ o. IfSome o (λ x. is_open x ≡ false)) is (arguments_closed t closed)
 

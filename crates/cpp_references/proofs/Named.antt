@@ -35,7 +35,7 @@ module _ (around : Around) (place k : ℕ) (state : State) where
       by_scope (Some a) some ∙ ap (λ b. elim b as (λ _. Result State Refusal) [ false ↦ Err (BadReference place) | true ↦ named_in a ]) less
       ∙ ap (λ m. m >>= λ s. Ok (appended around (parameter k (element a k)) s)) goes
 
-  -- the argument that it names
+  -- the argument that a parameter names
   pub argument_in_scope : (a : Term) → around.scope ≡ Some a → argument_at around k ≡ element a k
   unfolding argument_at
   argument_in_scope a some = ap (λ o. elim o as (λ _. Term) [ None ↦ absent | Some b ↦ element b k ]) some

@@ -1,4 +1,4 @@
--- What references name, as the code answers it.
+-- What references name, in the form in which the code answers.
 use Rattle.std.specs.Prelude.{ℕ, List, Bool, true, false, nat_eq, Option, Some, None, Result, Ok, Err}
 use Rattle.sym_core.specs.declared.refusal.Refusal.{Refusal}
 use Rattle.sym_link.specs.Reading.{Found}
@@ -30,7 +30,7 @@ unfoldable pub parameter_read : Around → List ℕ → Stored → State → Res
 parameter_read around s y state (Ok r) = Ok (appended around (tree_of_node s y r.0) (record state { packs = r.1 }))
 parameter_read around s y state (Err e) = Err e
 
--- a tree re-read with the argument at this node: the one that is meant here, or the list of a scope's arguments
+-- a tree re-read with the argument at this node: the argument that is meant here, or the list of a scope's arguments
 unfoldable pub argument_read : List Term → Term → State → Result (ℕ × Option ℕ) Refusal → Result (Found Value State) Refusal
 argument_read ts t state (Ok r) = Ok (found (values.tree (reargued (Some (tree_at ts r.0)) t) true) (record state { packs = r.1 }))
 argument_read ts t state (Err e) = Err e

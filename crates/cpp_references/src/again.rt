@@ -8,7 +8,7 @@ ghost use Rattle.cpp_references.specs.Around.{trees_in, tree_of_node};
 use cpp_tree::Nodes;
 use cpp_tree::node::{Node, Placed};
 
-/// A node that isn't an alias, and the argument under which its parts are.
+/// A node that isn't an alias, and the argument under which its parts are re-read.
 #[derive(Clone, Copy)]
 pub struct OpenedNode {
     pub node: Node,

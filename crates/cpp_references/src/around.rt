@@ -33,7 +33,7 @@ pub enum Naming {
 
 /// What surrounds a part, and the length that the packs had where its rule began.
 ///
-/// Its fields leave no gap in memory, since it goes from call to call.
+/// The fields leave no gap in memory, since the struct is passed from call to call.
 #[derive(Clone, Copy)]
 pub struct Surroundings {
     /// The arguments that parameters name, if `scope` says that they name some.
@@ -94,7 +94,7 @@ impl Surroundings {
         }
     }
 
-    /// Whether an encoding that a literal in a constraint denotes begins here.
+    /// Whether the encoding of a literal in a constraint begins here.
     #[tactic(auto, unfolding(crate::specs::Around::is_literal))]
     #[inline(always)]
     pub fn is_passed_over(self) -> bool

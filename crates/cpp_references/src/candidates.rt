@@ -43,7 +43,8 @@ pub struct Candidate {
     /// The place of the candidate whose number in the longer list is this entry's own place, if
     /// there is one.
     pub longer: usize,
-    /// Likewise in the shorter list.
+    /// The place of the candidate whose number in the shorter list is this entry's own place, if
+    /// there is one.
     pub shorter: usize,
     pub in_lambda: bool,
     pub counted: Counted,
@@ -178,7 +179,7 @@ fn names_module(node: Node) -> bool
     }
 }
 
-/// Whether a node's tree is a module's name, which no substitution names but one before a component of a nested name.
+/// Whether a node's tree is a module's name, which a substitution names only before a component of a nested name.
 pub fn is_module(nodes: &Nodes, symbol: &[u8], node: u32) -> bool
     requires table { IsTable (over symbol.now nodes.now) }
     requires below { node < length nodes.now.nodes }
@@ -191,8 +192,8 @@ pub fn is_module(nodes: &Nodes, symbol: &[u8], node: u32) -> bool
 ///
 /// # Errors
 ///
-/// `BadReference` where there is no candidate, a module, one with free parameters of another encoding or in the signature of a lambda,
-/// or one that holds packs outside an expansion or of another length than the earlier ones.
+/// `BadReference` if there is no candidate, or if the candidate is a module, has free parameters of another encoding or in the signature of
+/// a lambda, or holds packs outside an expansion or of another length than the earlier ones.
 #[tactic(auto, unfolding(cpp_term::specs::References::substituted, crate::specs::References::packs_read, crate::specs::References::maybe_candidate, crate::specs::References::node_read, crate::specs::Around::around_of))]
 pub fn substituted(
     nodes: &Nodes,
@@ -224,7 +225,7 @@ pub fn substituted(
     }
 }
 
-/// What the substitution whose digits begin at this place names, and the length of the packs after it.
+/// What a substitution names, by the place where its digits begin, and the length of the packs after it.
 ///
 /// # Errors
 ///

@@ -35,13 +35,13 @@ fn packs_with(nodes: &Nodes, symbol: &[u8], node: u32, argument: u32) -> Option<
     nodes.packs(symbol, tree)
 }
 
-/// The argument here of the one parameter, by its number, that is free in a tree which was made elsewhere, and the length of the
-/// packs after it.
+/// For a tree that was made elsewhere and has one free parameter: the argument in this scope with the parameter's number, and the length of
+/// the expansion's packs once the tree is read.
 ///
 /// # Errors
 ///
-/// `BadReference` where it names no argument of the scope, or where the tree has packs then and is outside an expansion or
-/// after packs of another length.
+/// `BadReference` if there is no scope here, if the scope has no argument of that number or that argument is a list, or if the tree has
+/// packs under the argument and is outside an expansion or after packs of another length.
 #[tactic(auto, unfolding(crate::specs::References::argument_read, crate::specs::Around::around_of))]
 fn argument_by(
     nodes: &Nodes,
@@ -79,12 +79,12 @@ fn argument_by(
     }
 }
 
-/// The scope for a tree that was made elsewhere and has several free parameters, of which the greatest
-/// has this number.
+/// The scope for a tree that was made elsewhere and has several free parameters, by the greatest of their numbers.
 ///
 /// # Errors
 ///
-/// `BadReference` where it has no argument of that number, or a pack among its arguments.
+/// `BadReference` if there is no scope here, or if the scope has no argument of that number or has
+/// a pack among its arguments.
 #[tactic(auto, unfolding(crate::specs::References::argument_read, crate::specs::Around::around_of))]
 fn scope_by(
     nodes: &Nodes,
@@ -113,13 +113,13 @@ fn scope_by(
     Ok((scope, packs))
 }
 
-/// The argument that the free parameters of a tree which was made elsewhere have here, or the scope with one for each, and the
-/// length of the packs after it.
+/// What replaces the free parameters of a tree that was made elsewhere: one argument, or the scope, which has an argument for each; and the
+/// length of the expansion's packs once the tree is read.
 ///
 /// # Errors
 ///
-/// `BadReference` outside the signature of a lambda: as `argument_by` if one parameter is free in
-/// the tree, and as `scope_by` if several are.
+/// Outside the signature of a lambda, `BadReference` if no parameter is free in the tree; if one is
+/// free, as `argument_by` answers; if several are, as `scope_by` answers.
 #[tactic(auto, unfolding(crate::specs::References::argument_read, crate::specs::Around::around_of))]
 pub fn argument_here(
     nodes: &Nodes,

@@ -12,7 +12,7 @@ use sym_core::Refusal;
 ///
 /// # Errors
 ///
-/// `BadReference` at the place where the tree holds packs outside an expansion, or of another length than the earlier ones.
+/// `BadReference` at the place, if the tree holds packs outside an expansion, or packs of another length than the earlier packs.
 #[tactic(auto, unfolding(cpp_term::specs::References::with_packs, crate::specs::References::packs_read))]
 pub fn with_packs(
     place: u32,

@@ -43,8 +43,7 @@ pub fn count(nodes: &Nodes, symbol: &[u8], list: u32) -> u32
     nodes.entry(list).count
 }
 
-/// The arguments that a name ends in, and none where a parameter is free in it: no parameter is free in the name of an
-/// encoding.
+/// The arguments that a name ends in, or none if a parameter is free in the name. In the name of an encoding, no parameter is free.
 pub fn closed_arguments(nodes: &Nodes, symbol: &[u8], name: u32) -> Option<u32>
     requires table { IsTable (over symbol.now nodes.now) }
     requires below { name < length nodes.now.nodes }
@@ -60,7 +59,7 @@ pub fn closed_arguments(nodes: &Nodes, symbol: &[u8], name: u32) -> Option<u32>
     }
 }
 
-/// The argument of this number among those that are named.
+/// The argument of this number among those of a scope.
 pub fn argument(nodes: &Nodes, symbol: &[u8], scope: u32, number: u32) -> u32
     requires table { IsTable (over symbol.now nodes.now) }
     requires below { scope < length nodes.now.nodes }
@@ -76,12 +75,12 @@ pub fn argument(nodes: &Nodes, symbol: &[u8], scope: u32, number: u32) -> u32
     nodes.closed_node(symbol, argument)
 }
 
-/// The parameter of these digits with the argument that it names, and the length of the packs after it.
+/// The parameter with these digits and the argument that it names, and the length of the packs once the parameter is named.
 ///
 /// # Errors
 ///
-/// `BadReference` where it names no argument of the scope, or one that is a pack outside an expansion or of another length than
-/// the earlier ones.
+/// `BadReference` if the parameter names no argument of the scope, names a pack outside an expansion, or names a pack of another length
+/// than the earlier ones.
 #[tactic(auto, unfolding(cpp_term::specs::References::parameter_named, crate::specs::Around::around_of, crate::specs::References::parameter_read))]
 #[inline(always)]
 pub fn named_parameter(

@@ -1,4 +1,4 @@
--- How many nodes a production makes at most is what its row says.
+-- The greatest number of nodes that a production makes is what its row says.
 use Rattle.std.proofs.Common.{◌≡◌, refl}
 use Rattle.cpp_grammar.specs.declared.production.Production.{Production}
 use Rattle.cpp_grammar.specs.Row.{most_made, most_at_end}

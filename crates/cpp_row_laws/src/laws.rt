@@ -1,4 +1,4 @@
-// The linker's counts of each production are its row's.
+// The linker's counts of each production are those in the production's row.
 ghost use Rattle.std.specs.Prelude.{◌≡◌, List, length};
 ghost use Rattle.cpp_grammar.specs.declared.production.Production.{Production};
 ghost use Rattle.cpp_grammar.specs.Row.{before_part, most_at_end, most_before, quiet_before};

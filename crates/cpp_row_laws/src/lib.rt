@@ -1,4 +1,4 @@
-//! What the linker counts of each production is what its row says. This crate has only laws.
+//! The linker's counts for each production are those of its row. This crate has only laws.
 #![tactic(auto)]
 
 mod laws;

@@ -1,4 +1,4 @@
--- What spells the parts of a name is within the bytes of the symbol, if its rows are.
+-- The spelling of a name's parts is within the bytes of the symbol, if the symbol's rows are.
 use Rattle.std.proofs.Common.{ℕ, ◌+◌, ◌≤◌, Bool, true, false, arith, List, [], ◌∷◌, map, reverse, nat_lt, if◌then◌else◌}
 use Rattle.std.specs.List.{All}
 use Rattle.std.proofs.lemmas.List.Elements.{All-nil, All-cons, All-head, All-tail, All-map}
@@ -170,7 +170,7 @@ all_within n outline name returns all some =
       elements = bytes_within n ELEMENT (rest_of name) rest;
     }
 
--- what spells the parts is within the symbol, if its rows are
+-- the spelling of the parts is within the symbol, if the symbol's rows are
 pub spelling_within : (n : ℕ) (rows : List Row) (returns : Bool) → All (IsRowWithin n) rows → IsWithin n (spelling_of rows returns)
 spelling_within n rows returns all =
     let outline : AreWithin n (outline_of rows) = outline_within n rows 0 0 rows all all in

@@ -12,7 +12,7 @@ use Rattle.cpp_spelled.specs.Within.{IsRowWithin}
 use Rattle.cpp_spelled.specs.declared.outline.Reached.{Reached}
 use Rattle.cpp_spelled.specs.declared.sought.Sought.{Sought}
 
--- what holds of both holds of the one that a test chooses
+-- if P holds of both values, it holds of the one that a test chooses
 pub either : {X : Type 0} (P : X → Type 0) (b : Bool) (x y : X) → P x → P y → P (if b then x else y)
 either P true x y first second = first
 either P false x y first second = second
@@ -30,7 +30,7 @@ row_within n [] k all = (omega arith, omega arith)
 row_within n (row ∷ rows) zero all = All-head (IsRowWithin n) row rows all
 row_within n (row ∷ rows) (suc k) all = row_within n rows k (All-tail (IsRowWithin n) row rows all)
 
--- a row of an outline is within the symbol, with the row after it and its own bytes
+-- a row of an outline is within the symbol, and so are the row after it and the row's own bytes
 pub record IsReachedWithin (n : ℕ) (x : Reached) : Type 0 where
   pub row : IsRowWithin n x.row
   pub first : IsRowWithin n x.first

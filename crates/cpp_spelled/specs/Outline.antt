@@ -10,7 +10,7 @@ use Rattle.cpp_spelled.specs.declared.sought.Sought.{Sought}
 use Rattle.cpp_spelled.specs.declared.sought.TheConstants.{PASSED_OVER}
 use Rattle.cpp_spelled.specs.declared.outline.Reached.{Reached}
 
--- a row without bytes, where there is no row
+-- a row without bytes, used if there is no row
 abbrev pub nowhere : Row
 nowhere = record { rule = TOKEN; after = 0; from = 0; to = 0; end = 0 }
 
@@ -18,9 +18,9 @@ nowhere = record { rule = TOKEN; after = 0; from = 0; to = 0; end = 0 }
 abbrev pub row_at : List Row → ℕ → Row
 row_at rows number = slice_index_or rows number nowhere
 
--- The bytes of a row up to the row of its rule's last symbol, if that is the first or the second row within it; otherwise all its
--- bytes. The rules of lists end in the rest of the list, so these bytes are an item without the later ones; for a tag, they
--- leave out what follows the tag.
+-- The bytes of a row before the row of its rule's last symbol, if the latter is the first or the second row within the former;
+-- otherwise all bytes of the row. The rules of lists end in the rest of the list, so these bytes are an item without the later
+-- ones; for a tag, they leave out what follows the tag.
 unfoldable pub own_bytes : List Row → (number : ℕ) → Row → Span
 own_bytes rows number row =
     if nat_le row.end (number + 1) then span row.from row.to
@@ -41,7 +41,7 @@ outlined rows number row = record {
 unfoldable pub next_number : (number : ℕ) → Row → ℕ
 next_number number row = if is PASSED_OVER (sort_in row) then row.end else number + 1
 
--- the outline by the rows from a number on; those before the number `past` are passed over
+-- the outline of the rows from a number on; the rows before the number `past` are passed over
 unfoldable pub outline_from : List Row → (number past : ℕ) → List Row → List Reached
 outline_from rows number past [] = []
 outline_from rows number past (row ∷ rest) =

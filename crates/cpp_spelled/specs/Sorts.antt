@@ -1,4 +1,4 @@
--- What the rows of a shape are to the parts of a name.
+-- How the rows of a shape relate to the parts of a name.
 use Rattle.std.specs.Prelude.{ℕ, Bool, ◌&&◌, Some, None, slice_get, nat_le, if◌then◌else◌}
 use Rattle.cpp_grammar.specs.declared.production.Production.{Production}
 use Rattle.cpp_grammar.specs.Grammar.{productions}
@@ -8,7 +8,7 @@ use Rattle.cpp_spelled.specs.declared.sort.Sort.TheVariants as sort
 use Rattle.cpp_spelled.specs.declared.sought.Sought.{Sought}
 use Rattle.cpp_spelled.specs.declared.sought.TheConstants.{ANY_ENCODING}
 
--- what the row of a production is to the parts of a name
+-- how the row of a production relates to the parts of a name
 unfoldable pub sort_of : Production → Sort
 sort_of Production.Symbol = sort.Opened
 sort_of Production.NonVirtualThunk = sort.Opened
@@ -75,7 +75,7 @@ sort_of _ = sort.Closed
 unfoldable pub sort_at : (rule : ℕ) → Sort
 sort_at rule = elim (slice_get productions rule) [ Some production ↦ sort_of production | None ↦ sort.Closed ]
 
--- the number of a sort, in their order
+-- the number of a sort, in the order of the sorts
 unfoldable pub number_of_sort : Sort → ℕ
 number_of_sort sort.Closed = 0
 number_of_sort sort.Suffix = 1
@@ -101,6 +101,6 @@ number_of_sort sort.Parameter = 18
 unfoldable pub is : Sought → Sort → Bool
 is sought s = nat_le (number_of_sort sought.first) (number_of_sort s) && nat_le (number_of_sort s) (number_of_sort sought.last)
 
--- what a row is to the parts of a name: the encoding of a local name, which an `E` and the entity follow, is closed
+-- how a row relates to the parts of a name; the encoding of a local name, before an `E` and the entity, is closed
 unfoldable pub sort_in : Row → Sort
 sort_in row = if is ANY_ENCODING (sort_at row.rule) && nat_le 2 row.after then sort.Closed else sort_at row.rule

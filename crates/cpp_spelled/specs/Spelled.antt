@@ -28,7 +28,8 @@ words_in object (x ∷ xs) =
 
 -- ## Names
 
--- where the base begins: after an `St`, with the name where one reference is the whole name, and otherwise with its component
+-- where the base begins: after an `St`; where the name begins, if one reference is the whole name; and otherwise where the
+-- base's component begins
 unfoldable pub base_begin : Reached → (outline : List Reached) → ℕ
 base_begin x outline =
     if is IN_STD x.sort then x.first.from
@@ -40,7 +41,7 @@ unfoldable pub base_in : (outline : List Reached) → (name : List Reached) → 
 base_in outline [] = object_in (from_first OBJECT outline)
 base_in outline (x ∷ xs) = span (base_begin x outline) (begin_or (from_first AFTER_BASE xs) x.row.to)
 
--- where a scope ends: before the base, or with it where one reference is both
+-- where a scope ends: before the base, or with the base where one reference is both scope and base
 unfoldable pub scope_end : List Reached → Span → ℕ
 scope_end [] base = base.from
 scope_end (x ∷ xs) base = if is WHOLE x.sort then base.to else base.from
@@ -86,7 +87,7 @@ unfoldable pub last_end : ℕ → List Span → ℕ
 last_end end [] = end
 last_end end (s ∷ ss) = last_end s.to ss
 
--- all the parameters: where there are none, the end of the function
+-- all the parameters, or the end of the function if there are none
 unfoldable pub parameters_in : List Span → (function : List Reached) → (base : Span) → Span
 parameters_in [] [] base = base
 parameters_in [] (x ∷ xs) base = span x.row.to x.row.to
@@ -148,7 +149,7 @@ spelling_in outline name returns =
       elements = bytes_of_all ELEMENT (rest_of name);
     }
 
--- What spells the parts of the text of the symbol that has these rows. `returns` says whether the function has a return type.
--- Rows don't show this for a name that ends in a substitution and arguments.
+-- What spells each part of a symbol's text, by the symbol's rows. `returns` says whether the function has a return type. Rows
+-- don't show this for a name that ends in a substitution and arguments.
 abbrev pub spelling_of : List Row → (returns : Bool) → Spelling
 spelling_of rows returns = spelling_in (outline_of rows) (from_last COMPONENT (outline_of rows)) returns

@@ -76,7 +76,7 @@ pub(crate) fn words_in(
 ///
 /// # Errors
 ///
-/// `Memory` where it doesn't fit.
+/// `Memory` if the next number doesn't fit.
 fn next(count: u32) -> Result<u32, Refusal>
     ensures next { IfOk result (λ found. found ≡ count + 1) }
     ensures refusals { IfErr result (λ refusal. refusal ≡ Refusal.Memory) }
@@ -91,7 +91,7 @@ fn next(count: u32) -> Result<u32, Refusal>
 ///
 /// # Errors
 ///
-/// `Memory` where there are too many.
+/// `Memory` if there are too many elements.
 #[tactic(auto, unfolding(crate::specs::Spelled::elements_ahead))]
 fn elements_ahead(outline: &[Reached]) -> Result<u32, Refusal>
     ensures count { IfOk result (λ found. found ≡ elements_ahead outline.now) }

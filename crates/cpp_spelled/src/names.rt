@@ -76,7 +76,7 @@ fn scope_end(name: &[Reached], base: Span) -> u32
     }
 }
 
-/// Where the scope of a local name ends: before the base of its nested name, or otherwise with the function.
+/// Where the scope of a local name ends: before the base of its nested name, or otherwise at the end of the function.
 #[tactic(auto, unfolding(crate::specs::Spelled::local_end))]
 fn local_end(row: &Reached, begin: &[Reached], base: Span) -> u32
     ensures { result ≡ spelled.local_end row.now begin.now base }
@@ -151,7 +151,7 @@ fn first_or(types: &[Span], other: Span) -> Span
     }
 }
 
-/// All the parameters: where there are none, the end of the function.
+/// All the parameters, or the end of the function if there are none.
 #[tactic(auto, unfolding(crate::specs::Spelled::parameters_in, crate::specs::Spelled::last_end))]
 fn parameters_in(types: &[Span], outline: &[Reached], base: Span) -> Span
     ensures { result ≡ spelled.parameters_in types.now (from_first ENCODING outline.now) base }
@@ -166,7 +166,7 @@ fn parameters_in(types: &[Span], outline: &[Reached], base: Span) -> Span
     }
 }
 
-/// These bytes, or those of the base where there are none.
+/// These bytes, or those of the base if there are none.
 #[tactic(auto, unfolding(crate::specs::Spelled::or_base))]
 fn or_base(span: Span, base: Span) -> Span
     ensures { result ≡ spelled.or_base span base }

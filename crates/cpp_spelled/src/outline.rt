@@ -21,9 +21,9 @@ use sym_shape::{Row, TOKEN};
 pub(crate) struct Reached {
     pub(crate) sort: Sort,
     pub(crate) row: Row,
-    /// The next row, which is the first one within this row, if it has any.
+    /// The next row, which is the first row within this one, if this one has any.
     pub(crate) first: Row,
-    /// Its bytes up to the row of the last symbol of its rule: without the rest of a list, or what follows a tag.
+    /// This row's bytes up to the row of its rule's last symbol: without the rest of a list, or what follows a tag.
     pub(crate) own: Span,
 }
 
@@ -38,7 +38,7 @@ pub(crate) fn span(from: u32, to: u32) -> Span
     Span { from, to: from }
 }
 
-/// The row with a number, or one without bytes where there is none.
+/// The row with a number, or a row without bytes if there is no such row.
 fn row_at(rows: &[Row], number: usize) -> Row
     ensures { result ≡ row_at rows.now number }
 {
@@ -54,7 +54,7 @@ fn row_at(rows: &[Row], number: usize) -> Row
     }
 }
 
-/// What a row is to the parts of a name.
+/// How a row relates to the parts of a name.
 #[tactic(auto, unfolding(crate::specs::Sorts::sort_in))]
 fn sort_in(row: Row) -> Sort
     ensures { result ≡ sort_in row }
@@ -66,8 +66,8 @@ fn sort_in(row: Row) -> Sort
     sort
 }
 
-/// The bytes of a row up to the row of its rule's last symbol, if that is the first or the second
-/// row within it; otherwise all its bytes.
+/// The bytes of a row up to the row of its rule's last symbol, if the latter is the first or the
+/// second row within this one; otherwise all bytes of the row.
 #[tactic(auto, unfolding(crate::specs::Outline::own_bytes))]
 fn own_bytes(rows: &[Row], number: usize, row: Row) -> Span
     requires { number + 1 < 2 ^ 64 }
@@ -100,7 +100,7 @@ fn outlined(rows: &[Row], number: usize, row: Row) -> Reached
     }
 }
 
-/// The outline of a symbol with these rows: all rows but those within a row that is passed over.
+/// The outline of a symbol with these rows: all rows except those within a row that is passed over.
 ///
 /// # Errors
 ///
@@ -163,7 +163,7 @@ pub(crate) fn from_last(sought: Sought, outline: &[Reached]) -> &[Reached]
     }
 }
 
-/// Where the first row of an outline begins; the given place if it has no row.
+/// Where the first row of an outline begins; the given place if the outline has no row.
 #[tactic(auto, unfolding(crate::specs::Outline::begin_or))]
 pub(crate) fn begin_or(outline: &[Reached], place: u32) -> u32
     ensures { result ≡ begin_or outline.now place }

@@ -1,17 +1,17 @@
-// What the rows of a shape are to the parts of a name.
+// How the rows of a shape relate to the parts of a name.
 #![tactic(auto)]
 
 ghost use Rattle.std.specs.Prelude.{◌≡◌};
 ghost use Rattle.cpp_spelled.specs.Sorts.{number_of_sort};
 
-/// What a row is to the parts of a name, by its production. Sorts that are sought together follow one another.
+/// How a row relates to the parts of a name, by its production. Sorts that are sought together follow one another.
 #[derive(Clone, Copy)]
 pub(crate) enum Sort {
     /// A type, a literal, a token, or another row that contains no part of the name.
     Closed,
     /// The suffix after the encoding.
     Suffix,
-    /// A special name without its `T` or `G`, that belongs to a type, a name, an argument or a module.
+    /// A special name, without its `T` or `G`, that belongs to a type, a name, an argument or a module.
     Object,
     /// A special name that belongs to a temporary.
     Temporary,
@@ -48,7 +48,7 @@ pub(crate) enum Sort {
 }
 
 impl Sort {
-    /// Its number, in the order of the sorts.
+    /// The number of a sort, in the order of the sorts.
     #[tactic(auto, unfolding(crate::specs::Sorts::number_of_sort))]
     pub(crate) fn number(self) -> u8
         ensures { result ≡ number_of_sort self }

@@ -17,7 +17,7 @@ use sym_core::Refusal;
 use sym_parts::Spelling;
 use sym_shape::Row;
 
-/// What spells the parts of the text of the symbol that has these rows.
+/// What spells each part of a symbol's text, by the symbol's rows.
 ///
 /// # Errors
 ///
@@ -50,15 +50,14 @@ fn by_outline(alloc: Global, rows: &[Row], returns: bool) -> Result<Spelling, Re
     })
 }
 
-/// What spells the parts of the text of the symbol that has these rows, by the grammar of the ABI or by the wide one. `returns`
-/// says whether the function has a return type. Rows don't show this for a name that ends in a substitution and
-/// `<template-args>`.
+/// What spells each part of a symbol's text, by the symbol's rows under the grammar of the ABI or under the wide one. `returns` says
+/// whether the function has a return type. Rows don't show this for a name that ends in a substitution and `<template-args>`.
 ///
-/// The base is the last component without its tags and arguments. The scope is what precedes it: from the first component of
-/// the `<nested-name>` on, or from the `<encoding>` that a `<local-name>` is in. A `<substitution>` that is a whole name is both
-/// scope and base. Arguments are each `<template-arg>`, and parameters each `<type>` of the `<bare-function-type>`,
-/// also a lone `v`, which spells no part of the text. The words of a `<special-name>` are spelled by what precedes the
-/// `<encoding>`, the `<type>` or the `<name>` that it belongs to.
+/// The base is the last component without its tags and arguments. The scope is what precedes it: from the first component of the
+/// `<nested-name>` on, or from the `<encoding>` that a `<local-name>` is in. A `<substitution>` that is a whole name is both scope and
+/// base. The arguments are the `<template-arg>`s. The parameters are the `<type>`s of the `<bare-function-type>`, including a lone `v`,
+/// which spells no part of the text. The words of a `<special-name>` are spelled by what precedes the `<encoding>`, the `<type>` or the
+/// `<name>` that it belongs to.
 ///
 /// # Errors
 ///

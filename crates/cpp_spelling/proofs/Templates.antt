@@ -46,7 +46,7 @@ known-template n b (instance t x) a r k p cs is some =
 known-template n b (tagged of_structor name tag) a r k p cs is some = named-known n (tagged of_structor name tag) a _ r k p cs some
 known-template n b _ a r k p cs is some = absurd (true-false (sym is))
 
--- a name that is spelled out, and the end of the component that it is
+-- a name that is spelled out, and the end of its component
 whole-is : (n : ℕ) (t a : Term) (s r : Spelling) → ◌≡◌ {A = Spelling} ((s and (ended n t and behind n a)) and r) (s and (ended n t and arguments_onto n a r))
 whole-is n t a s r = three s (ended n t) (behind n a) r ∙ under s (under (ended n t) (arguments-is n a r))
 

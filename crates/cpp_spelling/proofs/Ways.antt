@@ -1,4 +1,4 @@
--- A tree that is spelled out before the rest of a spelling has the spelling that its way gives.
+-- If a tree is spelled out and the rest of a spelling follows, the tree has the spelling that `ways_of` gives.
 use Rattle.cpp_spelling.proofs.Basics.{◌≡◌, ℕ, ◌-◌, List, [], ◌∷◌, ◌++◌, Bool, true, false, Option, Some, None, refl, ap, sym, ◌∙◌, codes, cond, ◌and◌, text, nothing, and-assoc, nothing-and, Qualifiers, RefQualifier, any_value, lvalue_only, rvalue_only, explicit_object, Term, symbol, function, object, special, thunk, of_name, construction, clone, alone, in_std, within, instance, local, holder, tagged, parameter, source, operator, literal_operator, constructor, destructor, lambda, unnamed, string_literal, conversion, builtin, sized_float, vendor, pointer, lvalue, rvalue, array, member_pointer, function_type, qualified, vector, complex, expansion, integer, encoding_literal, address_of, pack, nil, list, generic_lambda, enumeration, qualifiers_of, mark_of, counted, ordinal, signed_text, qualifier_letters, mark_letter, name_letters, special_code, thunk_text, discriminator_text, Component, Spelling, first_equal, component, spelled_out, reference, ended, ways_of, no_ways, type_ways, name_ways, piece_ways, argument_ways, encoding_ways, begun, function_text, in_N_and_E, with_letters, local_text, entity_text, is_operator, is_nested, is_one_piece, is_name, is_component, Way, ◌onto◌, written, in_way, in_name, before, bracketed, ending, piece_onto, in_std_onto, within_onto, nested_onto, arguments_onto, tag_onto, tagged_onto, between_onto, prefix_onto, plain_name_onto, lettered_onto, local_onto, has_letters, is_prefix, name_onto, compound_onto, class_onto, type_onto, argument_onto, more_parameters_onto, parameters_onto, elements_onto, encoding_onto, spelled_onto, is_compared, without_tags}
 use Rattle.cpp_grammar.specs.References.{is_function_type}
 

@@ -30,7 +30,7 @@ unfoldable pub is_instance : Term → Bool
 is_instance (instance template arguments) = true
 is_instance _ = false
 
--- a template name that is spelled out, the end of the component that it is, and its arguments
+-- a template name that is spelled out, the end of its component, and its arguments
 abbrev pub between_arguments_onto : (n : ℕ) → (name arguments : Term) → Spelling → Spelling
 between_arguments_onto n name arguments rest =
     elim (is_instance name) [

@@ -55,7 +55,7 @@ fn without_tags(symbol: &Symbol, name: u32) -> Node
     }
 }
 
-/// Whether a name that is no prefix needs an N. The name may have tags.
+/// Whether a name that isn't a prefix needs an N. The name may have tags.
 #[tactic(auto, unfolding(cpp_press_laws::specs::Pressing::is_nested, cpp_term::specs::Erased::erase, cpp_tree::specs::Nodes::tree_of, cpp_tree::specs::Nodes::is_again))]
 pub fn is_nested(symbol: &Symbol, name: u32) -> bool
     requires table { IsTable (table_of symbol.now) }

@@ -43,7 +43,7 @@ pub fn compared(first: Option<u64>) -> Standing
     }
 }
 
-/// Spells a tree in one of its ways: as a reference, or out, by how it compares with the components before it.
+/// Spells a tree in one of its ways, as a reference or spelled out, by how it compares with the components before it.
 pub fn step_tree(
     symbol: &Symbol,
     standing: Standing,
@@ -119,7 +119,7 @@ fn then_template_out(
     }
 }
 
-/// A template name, the end of the component that it is, and its arguments. A name that ends in arguments itself is always spelled as a reference.
+/// A template name, the end of its component, and its arguments. A name that itself ends in arguments is always spelled as a reference.
 #[tactic(auto, unfolding(crate::specs::Standings::is_instance, cpp_term::specs::Erased::erase, cpp_tree::specs::Nodes::tree_of, cpp_tree::specs::Nodes::is_again))]
 fn then_between_arguments(
     symbol: &Symbol,
@@ -157,7 +157,7 @@ fn is_instance(node: Node) -> bool
     }
 }
 
-/// Spells a template name, as a reference or out, by how it compares with the components before it, and then its arguments.
+/// Spells a template name, as a reference or spelled out, by how it compares with the components before it. Its arguments follow.
 pub fn step_template(
     symbol: &Symbol,
     standing: Standing,

@@ -1,4 +1,5 @@
--- For trees with arguments the same types of a lambda's functions are awaited.
+-- The types that are awaited after the name of a lambda are the same for trees with arguments as for trees without
+-- them.
 use Rattle.cpp_term.proofs.Basics.{◌≡◌, refl, ap, ◌∙◌, ℕ, Bool, false, Term, alone, in_std, within, lambda, generic_lambda, declaring, list, Awaited, Counting, Around, head_of_name, head_of, first_head, rest_of, heads_of, behind_another, types_in, awaited_by_piece, awaited_by, awaiting, expecting_item, Place, in_own, annotate, noted_around}
 use Rattle.cpp_term.specs.Term as term_
 use Rattle.cpp_term.specs.Rescoping as wide_

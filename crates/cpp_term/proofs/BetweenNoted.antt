@@ -20,7 +20,7 @@ use Rattle.cpp_term.proofs.MeaningNoted.{part_noted, tree_part, tree_noted, text
 use Rattle.cpp_term.proofs.StatesNoted.{Alongside, IsOutside, Settled, own_place, Alike, alike_bind, Same, Moves, moves_none, noting_moves, moves_then, one_moves, type_moves, unqualified_moves, prefix_moves, Comes, AreNoted, get_noted, module_noted, substituted_noted, both_named_noted, wide_numbered_noted, held_moves, more_moves, parameter_noted}
 use Rattle.cpp_term.proofs.AwaitedNoted.{awaiting_noted}
 
--- what is inside has the same scope, or is in a lambda's signature without one
+-- the inner surroundings have the same scope, or are in a lambda's signature and have no scope
 abbrev pub InScope : Around → Around → Type 0
 InScope around inner = ((inner.scope ≡ around.scope) × (inner.in_lambda ≡ around.in_lambda)) ⊎ ((inner.scope ≡ None) × (inner.in_lambda ≡ true))
 
@@ -413,7 +413,7 @@ module_goes around x y place number same =
         named_goes true around x x y y c.tree d.tree true [] [] (n.closed closed ∙ closed_noted nowhere (around_place true around) c.tree closed) refl (moves_none true around x x y y refl refl same.packs))
         (λ h. refl)
 
--- in a constraint nothing is named but a lambda's own parameters
+-- in a constraint, only a lambda's own parameters are named
 constraint_goes : (around : Around) (x : State) (y : value_.State) → Alongside x y →
     Alike {A = Next Value State Around} (Goes true in_own around x y) (next [] (in_constraint_of around) x) (between_.next [] (wide_.in_constraint_of (noted_around true around)) y)
 unfolding in_constraint_of wide_.in_constraint_of noted_around noted_prefix noted_scope noted_values place_in

@@ -69,7 +69,7 @@ part_placed p hidden x =
       | false ↦ elim (is_quiet p) [ true ↦ is_declaration x || (is_byte x || is_first x) | false ↦ not (is_declaration x) ]
     ]) && (not (is_first x) || (is_lambda p || in_first p))
 
--- a later part is in no production with a single part, and in a literal of an encoding it is that encoding
+-- no production with a single part has a later part, and the later part of an encoding's literal is that encoding
 unfoldable pub later_placed : Production → (first : Bool) → Sym → Bool
 later_placed p first x = first || (not (is_alone p) && (not (is_literal p) || is_encoding x))
 
@@ -287,7 +287,7 @@ abi_closes p byte around place began first vs x y h settled same e =
     (λ a b is c. record { value = c.value ∙ ap (λ s. noted_value s a.value) (sym (never_own (is_declared p) in_own (around_place false around))); moves = c.moves })
     (close_noted p byte around place began first vs x y h settled same e))
 
--- in a signature the values of the parts are annotated at the place where the value of the production is
+-- in a signature, the values of the parts are annotated at the same place as the value of the production
 first_value : (p : Production) (byte : ℕ) (around : Around) (vs : List Value) → Inside p vs → Settled around → around.in_lambda ≡ true →
     noted_.meaning p byte (noted_around true around) (noted_values in_own vs) ≡ noted_value (around_place true around) (meaning p byte around vs)
 first_value p byte around vs h settled l =

@@ -1,4 +1,4 @@
--- What was annotated is erased again.
+-- Erasing undoes annotating.
 use Rattle.cpp_term.proofs.Basics.{◌≡◌, refl, ap, sym, ◌∙◌, List, Result, Ok, Err, Refusal, Kind, Tree, IsTree, Found, ◌>>=◌, unfold_tree, wide, Term, symbol, function, object, special, thunk, of_name, construction, clone, alone, in_std, within, instance, local, holder, tagged, of_default, lambda, generic_lambda, conversion, pointer, lvalue, rvalue, array, constrained, bounded, member_pointer, function_type, qualified, vector, complex, expansion, integer, encoding_literal, address_of, pack, list, decltype, inheriting, operation, enumeration, bindings, declaring, unfold_cpp, unfold_wide, Place, nowhere, in_own, place_of, annotate, noted_tree, erase, CarriesArguments}
 use Rattle.sym_core.specs.declared.refusal.Refusal.TheVariants as refusals
 use Rattle.sym_link.specs.Driving.{Fails}
@@ -63,7 +63,7 @@ erased s _ = refl
 pub carries_arguments : (t : Term) → CarriesArguments (annotate nowhere t)
 carries_arguments t = ap (annotate nowhere) (erased nowhere t)
 
--- the tree that is read is this one without its arguments
+-- the tree that is read is `t` without its arguments
 pub record IsSymbolTree (read : Result Term Refusal) (t : term_.Term) : Type 0 where
   pub plain : read ≡ Ok (erase t)
   pub carries : CarriesArguments t

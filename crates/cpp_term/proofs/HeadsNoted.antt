@@ -34,7 +34,7 @@ cond_none : (b : Bool) → ◌≡◌ {A = Option ℕ} (cond b None None) None
 cond_none true = refl
 cond_none false = refl
 
--- without a scope no tree has packs, in whatever signature it is
+-- without a scope, no tree has packs in any signature
 packs_within : (s : Signature) (t : Term) → scope_.pack_length (annotate (place_within None s) t) ≡ None
 unfolding place_within place_in packs_in annotate scope_.length_if_pack
 packs_within in_none t = packs_noted None false t
@@ -58,7 +58,7 @@ indexed_noted s None t = refl
 indexed_noted s (Some i) (pack elements) = element_noted s elements i
 indexed_noted s (Some i) _ = refl
 
--- an argument of a scope, for a pack its element at the index
+-- an argument of a scope; if it is a pack, the pack's element at the index
 pub argument_noted : (index : Option ℕ) (arguments : Term) (k : ℕ) → item_.indexed index (scope_.element (annotate nowhere arguments) k) ≡ annotate nowhere (indexed index (element arguments k))
 argument_noted index arguments k = ap (item_.indexed index) (element_noted nowhere arguments k) ∙ indexed_noted nowhere index (element arguments k)
 

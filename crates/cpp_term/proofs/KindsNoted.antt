@@ -1,5 +1,5 @@
--- Laws of the table that imply `Insides`: encodings are made by productions that open one, and what a special name is about
--- occurs only in the kinds of special names.
+-- Laws of the table that imply `Insides`: encodings are made by productions that open an encoding, and what a special name
+-- is about occurs only in the kinds of special names.
 use Rattle.cpp_term.proofs.Basics.{◌≡◌, refl, ℕ, Bool, true, false, not, ◌||◌, nat_eq, Production, SPECIAL, SPECIAL_AFTER_G, number_of_kind, wide_alternatives, each_passes, opens}
 use Rattle.cpp_grammar.specs.declared.kind.Kind.{Kind}
 
@@ -17,7 +17,7 @@ in_special Production.ModuleInitializer = true
 in_special Production.ConstructionVtable = true
 in_special _ = false
 
--- a tree of the kind of encodings opens one
+-- a tree of the kind of encodings opens an encoding
 pub encodings_open : (kind : Kind) → each_passes (λ p. not (nat_eq (number_of_kind kind) 4) || opens p) (wide_alternatives kind) ≡ true
 unfolding number_of_kind wide_alternatives each_passes opens
 encodings_open Kind.Symbol = refl

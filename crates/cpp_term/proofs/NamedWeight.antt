@@ -1,4 +1,4 @@
--- A signature that declares parameters, given to the free parameters of a tree, makes it no heavier.
+-- A tree gets no heavier if its free parameters are given a signature that declares parameters.
 use Rattle.cpp_term.proofs.Basics.{◌≡◌, ap, ◌∙◌, refl, ◌≤◌, Bool, true, false, cond, Some, None, arith, or_none, argument_or, given_for, reargued, bare}
 use Rattle.cpp_term.specs.Term.{Term, symbol, parameter, expansion, local, declaring, alone, in_std, within, instance, holder, tagged, of_default, inheriting, lambda, conversion, enumeration, bindings, constrained, pointer, lvalue, rvalue, array, bounded, member_pointer, function_type, qualified, vector, complex, decltype, integer, operation, pack, list}
 use Rattle.cpp_term.specs.Scope.{length_if_pack}

@@ -1,4 +1,5 @@
--- Both readings of C++ over trees with arguments, as one; and when such a reading is the annotated form of one without them.
+-- Both readings of C++ over trees with arguments, as one; and when such a reading is the annotated form of a reading without
+-- arguments.
 use Rattle.cpp_term.proofs.Basics.{◌≡◌, refl, ap, ◌∙◌, ℕ, ◌-◌, ◌^◌, List, [], ◌∷◌, Bool, true, false, ◌&&◌, nat_lt, Result, Ok, Err, true≢false, Refusal, Forest, Found, Reading, found, Production, last_token, production_at, byte_of, local_number, BadValue, StaysInside, Way, abi_way, wide_way, differs, noted_around}
 use Rattle.cpp_grammar.specs.Values as leaf_
 use Rattle.cpp_grammar.specs.Unfolding as leaf_opening
@@ -55,7 +56,7 @@ pub record IsPlainNoted (v : NotedWay) : Type 0 where
   pub close : (p : Production) → differs p ≡ false → (byte : ℕ) (around : Around) (place : ℕ) (began : State) (vs : List Value) (state : State) →
       v.close p byte around place began vs state ≡ close p byte around place began vs state
 
--- a reading with arguments agrees within an encoding with one without them
+-- within an encoding, a reading with arguments agrees with a reading without arguments
 pub record IsNotedBy (w : Way) (v : NotedWay) : Type 0 where
   pub plain : IsPlainNoted v
   pub sees : Sees w

@@ -158,7 +158,7 @@ pack_noted s _ = refl
 
 -- ## Other arguments
 
--- at this place the free parameters name what this argument gives them
+-- the free parameters at this place name what this argument gives them
 abbrev pub NameThis : Place → term_.Term → Free → Type 0
 NameThis r a none_free = Unit {0}
 NameThis r a (one_free k) = argument_in r k ≡ given_for a k

@@ -1,4 +1,5 @@
--- An encoding is passed over only as a part of a literal in a constraint. So no other part is read where one is passed over.
+-- An encoding is passed over only as a part of a literal in a constraint. So no other part is read where an encoding is
+-- passed over.
 use Rattle.cpp_term.proofs.Basics.{◌≡◌, refl, ap, sym, ◌∙◌, ℕ, ◌-◌, List, [], ◌∷◌, length, Bool, true, false, ◌&&◌, cond, ◌⊎◌, inl, inr, Ok, Err, BadReference, Seq36, counted_value, Next, Production, Term, holder, parameter, is_at_literal, State, Around, prefix_tree, prefix_listed, Value, tree, tree_of, text_of, part, appended, parameter_named, Continuation, in_name, in_types, in_signature, under_expansion, after, inside, next, listed_so_far, parameter_so_far, argument_so_far, index_of, between, Where, in_its_name, in_its_types, Action, quiet, goes, becomes, tests, holds, unread, before_part, made, around_part, packs_within, gained, replaced, tested, done, row_of, is_open, either, if_there, ok_same, behind_bind, is_nothing, Way, abi_way, wide_way}
 use Rattle.cpp_grammar.specs.Rescoping.{generic_number, generic_so_far, parameter_here, argument_here, with_holder, is_instance, holder_so_far, with_held, module_named, module_so_far, in_constraint_of, is_unseen, in_literal, is_passed_over, passed_over, name_around, types_around, between_wide}
 

@@ -1,4 +1,4 @@
--- What another argument of the free parameters keeps of a tree, and what it changes.
+-- What stays the same in a tree under another argument of its free parameters, and what changes.
 use Rattle.cpp_term.proofs.Basics.{◌≡◌, refl, ap, ◌∙◌, ℕ, zero, suc, ◌<◌, arith, Bool, true, false, cond, not, ◌||◌, ◌&&◌, nat_lt, Option, Some, None, true≢false, ltb-true, is_none_of, lref, collapsed, Free, none_free, one_free, several_free, both_free, first_of, erase, if_alone, given_for, argument_or, given_alone, reargued, reargued_if_there, bare, HeadFrom, of_its_own, of_argument, collapsed_of_argument, collapsed_from, head_from, class_from, is_empty_with}
 use Rattle.cpp_grammar.specs.Term as term_
 use Rattle.cpp_term.specs.Term.{Term, alone, in_std, within, instance, local, holder, tagged, of_default, parameter, constructor, destructor, lambda, conversion, pointer, lvalue, rvalue, array, constrained, bounded, member_pointer, function_type, qualified, vector, complex, expansion, integer, pack, list, absent, decltype, inheriting, operation, enumeration, bindings, declaring}
@@ -333,7 +333,7 @@ reargued_lone a (qualified q t) other = ap (λ x. qualified q x) (reargued_lone 
 reargued_lone a (parameter k argument) other = ap (λ x. parameter k x) (given_twice a k)
 reargued_lone a _ other = absurd (other refl)
 
--- in a list without packs each element is given as it is
+-- each element of a list without packs is given as it is
 alone_element : (a : Term) (k : ℕ) → has_pack a ≡ false → if_alone (element a k) ≡ element a k
 unfolding has_pack element if_alone is_alone is_open
 alone_element (list first rest) zero none = first_alone (is_alone first) refl (or_left (not (is_alone first)) (has_pack rest) none)

@@ -18,7 +18,7 @@ use Rattle.cpp_term.proofs.MeaningNoted.{three, tree_noted, listed_noted, prefix
 
 -- ## Results
 
--- both are refused alike, or both have values that are related
+-- two results are the same refusal, or have values that are related
 abbrev pub Alike : {A B : Type 0} → (A → B → Type 0) → Result A Refusal → Result B Refusal → Type 0
 Alike R (Ok a) (Ok b) = R a b
 Alike R (Err e) (Err f) = f ≡ e
@@ -36,7 +36,7 @@ alike_bind R Q (Err e) (Ok b) f g r next = absurd r
 -- a candidate with its arguments, in these surroundings
 pub record IsNoted (own : Bool) (around : Around) (c : Candidate) (d : value_.Candidate) : Type 0 where
   pub encoding : d.encoding ≡ c.encoding
-  -- the scope by which it was annotated
+  -- the scope by which the candidate was annotated
   pub by : Place
   pub like : d.tree ≡ annotate by c.tree
   pub closed : is_open c.tree ≡ false → d.tree ≡ annotate nowhere c.tree
@@ -209,7 +209,7 @@ noted_here own around c d n outside e = go (is_open c.tree) around.in_lambda (na
     go true false false is-open is-lambda is-same h = absurd cc
     go true false true is-open is-lambda is-same h = n.here (eqb-true c.encoding around.encoding is-same) is-lambda (outside is-open)
 
--- a tree that a reference names, once its packs are as long as the earlier ones
+-- a tree that a reference names, once the tree's packs are as long as the earlier ones
 found_noted : (own : Bool) (around : Around) (place : ℕ) (t : Term) (u : term_.Term) (m n : Option ℕ) (x : State) (y : value_.State) → u ≡ annotate (around_place own around) t → n ≡ m →
     Alongside x y → Alike (Comes own around x y)
     (with_packs place around.in_expansion m x >>= λ z. Ok (found (leaf_.tree t true) z)) (noted_.with_packs place around.in_expansion n y >>= λ z. Ok (found (value_.tree u true) z))
@@ -220,7 +220,7 @@ found_noted own around place t u m n x y is e packs = subst (λ n. Alike (Comes 
     (λ z. Ok (found (value_.tree u true) z))
     (packs_kept place around.in_expansion m x y packs) (λ a b h kept. record { value = ap (λ v. value_.tree v true) is; moves = moves_none own around x a y b kept.is kept.so kept.packs }))
 
--- what is done with the arguments of the scope, where there are some
+-- what is done with the arguments of the scope, if there are any
 with_arguments : {A B : Type 0} (R : A → B → Type 0) (place : ℕ) (o : Option Term) (f : Term → Result A Refusal) (g : term_.Term → Result B Refusal) →
     ((arguments : Term) → o ≡ Some arguments → Alike R (f arguments) (g (annotate nowhere arguments))) →
     Alike R (elim o [ None ↦ Err (BadReference place) | Some arguments ↦ f arguments ]) (elim (noted_scope o) [ None ↦ Err (BadReference place) | Some arguments ↦ g arguments ])
@@ -282,7 +282,7 @@ unfolding wide_.is_foreign is_foreign noted_around
 foreign_noted around c d n =
     three (λ a l k. a && (around.in_lambda || (l || not (nat_eq k around.encoding)))) (ap scope_.is_open n.like ∙ open_noted n.by c.tree) n.in_lambda n.encoding
 
--- in a signature no arguments are named
+-- no arguments are named in a signature
 abbrev pub Settled : Around → Type 0
 Settled around = around.in_lambda ≡ true → around.scope ≡ None
 
@@ -293,7 +293,7 @@ meant_by around by t k one arguments alone =
     let a : term_.Term = scope_.element (annotate nowhere arguments) k in
     renoted (in_arguments (annotate nowhere arguments)) by a t (subst (λ f. NameThis (in_arguments (annotate nowhere arguments)) a f) (sym one) (sym (given_same a k alone)))
 
--- a tree under the scope, in which there is an argument for each of its parameters, and no pack
+-- a tree under the scope, if the scope has an argument for each of the tree's parameters, and no pack
 meant_under : (by : Place) (t : Term) (m : ℕ) → free_in t ≡ several_free m → (arguments : Term) → nat_lt m (scope_.count (annotate nowhere arguments)) ≡ true → scope_.has_pack (annotate nowhere arguments) ≡ false →
     reargued (Some (annotate nowhere arguments)) (annotate by t) ≡ annotate (place_in (Some arguments) false) t
 unfolding place_in argument_in
@@ -493,7 +493,7 @@ wide_numbered_noted around place number x y settled same =
         (same_comes (listed_by lists around place number (with_lists lists x)) (wide_.listed_by lists (noted_around true around) place number (wide_.with_lists lists y))
         (listed_by_noted lists around place number (with_lists lists x) (wide_.with_lists lists y) settled (narrowed lists)))
       where
-        -- the candidates are those of the states before
+        -- the candidates are those of the earlier states
         same_comes : (a : Result (Found Value State) Refusal) (b : Result (Found value_.Value value_.State) Refusal) → Alike (Comes true around (with_lists lists x) (wide_.with_lists lists y)) a b → Alike (Comes true around x y) a b
         same_comes (Ok a) (Ok b) r = record { value = r.value; moves = record { more = r.moves.more; others = r.moves.others; is = r.moves.is; so = r.moves.so; each = r.moves.each; packs = r.moves.packs } }
         same_comes (Err e) (Err f) r = r

@@ -1,4 +1,4 @@
--- Unfolding with arguments is unfolding without, annotated.
+-- Unfolding with arguments gives the result of unfolding without them, annotated.
 use Rattle.cpp_term.proofs.Basics.{◌≡◌, refl, ap, sym, ◌∙◌, subst, nat_eq, ℕ, suc, ◌+◌, ◌<◌, ◌≤◌, List, [], ◌∷◌, ◌++◌, length, Bool, true, false, not, ◌||◌, ◌&&◌, Option, None, Result, Ok, Err, inl, inr, arith, lit≤, true≢false, false≢true, cases_Bool, Refusal, Rule, Sym, Kind as OfKind, symbols_of, IsSymbol, Tree, Forest, branch, empty, token, fixed, nothing, grown, spell, TakesRule, IsTree, AreTrees, Found, Open, Next, ◌>>=◌, Production, Operation, SYMBOL, SPECIAL, SPECIAL_MARK, SPECIAL_AFTER_G, COMPLETE_NAME, ITEMS, parts_of, number_of_kind, wide, rule_of, wide_sound, Term, is_open, arguments_of, in_name, in_types, between, no_items, meaning, passed_over, name_if, cpp_wide, unfold_wide, Good, GoodPrefix, held, good_tree, Bare, Within, AllOld, AllNew, Grows, old_later, old_grows, StaysInside, chosen_rule, taken_passes, either, first_of_both, name_by, types_by, Way, reading_by, abi_way, wide_way, differs, is_declaration, is_first, declares, is_nothing, read_none, is_encoding, opens, at_number, its_symbols, stays, takes_byte, Whole, taken_rule, KeepsClosed, abi_keeps, wide_keeps, Detail, answer_within, noted_answer, Place, nowhere, around_place, place_in, annotate, noted_scope, noted_value, noted_values, noted_prefix, noted_around, noted_tree}
 use Rattle.sym_link.specs.Unfold.{found, alone, unfold_tree, unfold_forest}
 use Rattle.cpp_grammar.specs.Values.{shown, is_at_literal, Candidate, State, Around, Value, tree_of, part}
@@ -111,7 +111,7 @@ moves_out own around inner at end x later y noted is lt grows m = record {
   each = all_out own around inner at end m.more m.others is lt (subst (λ cs. AllNew own inner end cs) (cancel x.candidates grows.more m.more (sym grows.is ∙ m.is)) grows.each) m.each;
 }
 
--- in the name of an encoding parameters name nothing, and in its types they name its arguments
+-- parameters name nothing in the name of an encoding; in the encoding's types, they name the arguments of this name
 name_place : (own : Bool) (at : ℕ) → around_place own (in_name at) ≡ nowhere
 unfolding in_name place_in
 name_place true at = refl
@@ -128,7 +128,7 @@ record Ends (own : Bool) (around : Around) (a : Found (List Value) State) (b : F
   state : u.state ≡ a.state
   noted : v.state ≡ b.state
 
--- likewise by the values of its parts
+-- what an encoding denotes, with arguments and without, by the values of its parts
 record Inner (way : Way) (noted_way : NotedWay) (p : Production) (around : Around) (place : ℕ) (x : State) (y : value_.State) (a : Found (List Value) State) (b : Found (List value_.Value) value_.State) : Type 0 where
   ends : (byte : ℕ) (began : State) (first : value_.State) →
       Alike (Ends way.own around a b) (way.close p byte around place began a.value a.state) (noted_way.close p byte (noted_around way.own around) place first b.value b.state)
@@ -161,7 +161,7 @@ encoding_made own around byte s v w closed =
     (ref_noted s v ∙ sym (ref_noted nowhere v)))
     ∙ ap (λ t. value_.tree t true) (encoding_noted (around_place own around) v (no_items w))
 
--- no parameter is free in the name of an encoding, so its arguments are those of the scope
+-- no parameter is free in the name of an encoding, so the name's arguments are those of the scope
 arguments_noted : (t : Term) → is_open t ≡ false → between_.closed_arguments (annotate nowhere t) ≡ noted_scope (arguments_of t)
 unfolding between_.closed_arguments
 arguments_noted t closed = ap (λ b. elim b [ true ↦ None | false ↦ scope_.arguments_of (annotate nowhere t) ]) (open_noted nowhere t ∙ closed) ∙ scope_noted t
@@ -579,7 +579,8 @@ result_noted own x y z (Err e) (Err d) many = ap Err many
 result_noted own x y z (Ok a) (Err d) many = absurd many
 result_noted own x y z (Err e) (Ok b) many = absurd many
 
--- Unfolding with arguments is unfolding without: the same refusal, or the same tree with its arguments.
+-- Unfolding with arguments gives the result of unfolding without them: the same refusal, or the same tree with its
+-- arguments.
 pub unfold_noted : (shape : Tree) → IsTree wide (OfKind SYMBOL) shape → unfolded_.unfold_cpp shape ≡ noted_tree (unfolding_.unfold_cpp shape)
 unfolding cpp unfolded_.cpp reading_by reading_noted_by abi_way abi_noted unfolded_.unfold_cpp unfolding_.unfold_cpp unfolding_.first_around unfolding_.first_state unfolded_.first_around unfolded_.first_state is_encoding is_special is_special_kind is_declaration is_first is_at_literal place_at noted_around noted_scope noted_prefix place_in
 unfold_noted shape is =
@@ -587,7 +588,7 @@ unfold_noted shape is =
     (tree_noted_ abi_way abi_keeps abi_noted abi_is_noted shape (OfKind SYMBOL) unfolding_.first_around 0 unfolding_.first_state unfolded_.first_state (trees_.known 0 (lit≤ tt)) is (omega arith) (λ opening. absurd (false≢true opening)) (λ special. absurd (false≢true special)) (λ own first. absurd (false≢true first)) (λ l. absurd (false≢true l)) (λ plain. refl) tt tt
     (record { packs = (refl, refl); all = tt }))
 
--- Likewise in the wide grammar.
+-- The wide grammar, too, gives the same result with arguments as without them.
 pub wide_unfold_noted : (shape : Tree) → IsTree wide (OfKind SYMBOL) shape → wide_.unfold_wide shape ≡ noted_tree (unfold_wide shape)
 unfolding cpp_wide wide_.cpp_wide reading_by reading_noted_by wide_way wide_noted wide_.unfold_wide unfold_wide unfolding_.first_around unfolding_.first_state unfolded_.first_around unfolded_.first_state is_encoding is_special is_special_kind is_declaration is_first is_at_literal place_at noted_around noted_scope noted_prefix place_in
 wide_unfold_noted shape is =

@@ -19,7 +19,7 @@ pub data Place : Type 0 where
   in_own : Place
   in_declared : (signature : term_.Term) → Place
 
--- the place where these arguments are named, or none are
+-- the place where these arguments are named, or where none are
 unfoldable pub place_of : Option term_.Term → Place
 place_of None = nowhere
 place_of (Some arguments) = in_arguments arguments
@@ -105,7 +105,8 @@ place_in None true = in_own
 place_in None false = nowhere
 place_in (Some arguments) in_signature = in_arguments (annotate nowhere arguments)
 
--- what parameters name in the surroundings of a part, where those in a lambda's signature may be its own
+-- what parameters name in the surroundings of a part; in a lambda's signature, they may name the lambda's own
+-- parameters
 abbrev pub around_place : (own : Bool) → Around → Place
 around_place own around = place_in around.scope (own && around.in_lambda)
 

@@ -1,4 +1,4 @@
--- What is shown and answered of a symbol, from the tree whose parameters carry their arguments.
+-- What is shown and answered for a symbol, from the tree whose parameters carry their arguments.
 use Rattle.std.specs.Prelude.{ℕ, List, Result, Ok, Err}
 use Rattle.sym_core.specs.declared.refusal.Refusal.{Refusal}
 use Rattle.sym_print.specs.declared.detail.Detail.{Detail}
@@ -15,7 +15,7 @@ use Rattle.cpp_term.specs.Ranks as rank_
 abbrev pub noted_root : term_.Term → item_.Item
 noted_root t = record { tree = t; form = root; context = item_.closed }
 
--- what that item prints, with nothing shared
+-- what the item of `noted_root` prints, with nothing shared
 abbrev pub noted_shown : Detail → term_.Term → Unshared
 noted_shown detail t = printed (part_.parts detail) rank_.rank (noted_root t)
 

@@ -1,4 +1,5 @@
--- What is printed: a tree in a form and a context, and what must be known of it: heads of types, packs, empty elements.
+-- What is printed, which is a tree in a form and a context, and what must be known of it: heads of types, packs, empty
+-- elements.
 use Rattle.std.specs.Prelude.{ℕ, [], ◌∷◌, Bool, true, false, ◌&&◌, Option, Some, None}
 use Rattle.cpp_grammar.specs.Items.{Form, Head, plain_head, funarr, lref, rref, collapsed, is_none_of}
 use Rattle.cpp_term.specs.Term.{Term, parameter, builtin, lvalue, rvalue, array, bounded, function_type, qualified, expansion, pack, nil, list}
@@ -34,8 +35,8 @@ auto = builtin (68 ∷ 97 ∷ [])
 unfoldable pub argument : Context → Term → Term
 argument context a = indexed context.index a
 
--- The head of a type as far as it doesn't depend on an index: it is known, or it is that of an element of a list, or what an
--- rvalue reference to that element collapses to.
+-- The head of a type as far as it doesn't depend on an index: it is known, it is the head of an element of a list, or it is
+-- what an rvalue reference to that element collapses to.
 pub data HeadClass : Type 0 where
   known : Head → HeadClass
   of_element : (elements : Term) → HeadClass
@@ -57,7 +58,7 @@ class_of (array digits t) = known funarr
 class_of (bounded bound t) = known funarr
 class_of _ = known plain_head
 
--- without an index a pack has no head
+-- a pack has no head without an index
 unfoldable pub plain_class : HeadClass → Head
 plain_class (known h) = h
 plain_class (of_element elements) = plain_head

@@ -9,7 +9,8 @@ use Rattle.cpp_term.specs.Items.{Context, Item}
 unfoldable pub pack_count : Term → ℕ
 pack_count t = or_none (pack_length t)
 
--- what an argument adds to the weight of a parameter: a signature that declares the parameter is printed as its name
+-- what an argument adds to the weight of a parameter; for a signature that declares the parameter, the parameter's name
+-- is printed
 unfoldable pub light : Term → (weight : ℕ) → ℕ
 light (declaring heads parameters) weight = 1
 light t weight = weight

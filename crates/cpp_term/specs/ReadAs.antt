@@ -6,8 +6,8 @@ use Rattle.cpp_term.specs.Term.{Term, symbol}
 use Rattle.cpp_term.specs.Values.{Value, tree}
 use Rattle.cpp_term.specs.Erased.{erase, CarriesArguments}
 
--- The values are one tree, that of an encoding with what follows it. Each free parameter of it carries its argument, and
--- without the arguments it is the tree that the symbol denotes.
+-- The values are one tree, that of an encoding with what follows it. Each of the tree's free parameters carries its
+-- argument. Without the arguments, the tree is the one that the symbol denotes.
 pub record IsReadAs (stands_for : Result plain_.Term Refusal) (values : List Value) : Type 0 where
   pub encoding : Term
   pub suffix : List ℕ

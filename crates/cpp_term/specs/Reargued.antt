@@ -1,4 +1,4 @@
--- A tree whose free parameters carry another argument, and what of it depends on that argument.
+-- A tree whose free parameters carry another argument, and which of its properties depend on that argument.
 use Rattle.std.specs.Prelude.{ℕ, Bool, true, false, ◌||◌, ◌&&◌, Option, Some, None}
 use Rattle.cpp_term.specs.Term.{Term, alone, in_std, within, instance, local, holder, tagged, of_default, parameter, lambda, conversion, pointer, lvalue, rvalue, array, constrained, bounded, member_pointer, function_type, qualified, vector, complex, expansion, integer, pack, nil, list, absent, decltype, inheriting, operation, enumeration, bindings, declaring}
 use Rattle.cpp_grammar.specs.Scope.{Free, one_free}
@@ -9,7 +9,8 @@ use Rattle.cpp_term.specs.Items.{HeadClass, collapsed_class}
 unfoldable pub if_alone : Term → Term
 if_alone t = elim (is_alone t) [ true ↦ t | false ↦ absent ]
 
--- what a parameter of this number gets: its own element of a list of arguments, and any other argument itself
+-- what a parameter of this number gets: the element with the number if the argument is a list, and otherwise the
+-- argument itself
 unfoldable pub given_for : (given : Term) → (number : ℕ) → Term
 given_for (list first rest) k = if_alone (element (list first rest) k)
 given_for a k = a
@@ -99,7 +100,7 @@ bare (pack elements) = bare elements
 bare (list e rest) = bare e || bare rest
 bare _ = false
 
--- whether the head of a type is its own, that of the argument, or what a reference to an rvalue of the argument has
+-- whether the head of a type is the type's own, the argument's, or that of an rvalue reference to the argument
 pub data HeadFrom : Type 0 where
   of_its_own : HeadFrom
   of_argument : HeadFrom
@@ -116,13 +117,13 @@ head_from (rvalue t) = collapsed_from (head_from t)
 head_from (qualified q t) = head_from t
 head_from _ = of_its_own
 
--- the class of a type's head, from its own and that of a parameter with the argument
+-- the class of a type's head, from the class of the type's own head and that of a parameter with the argument
 unfoldable pub class_from : HeadFrom → (own given : HeadClass) → HeadClass
 class_from of_its_own own given = own
 class_from of_argument own given = given
 class_from collapsed_of_argument own given = collapsed_class given
 
--- whether the tree prints nothing, by whether the argument is an empty pack
+-- whether the tree prints nothing, given whether the argument is an empty pack
 unfoldable pub is_empty_with : (none : Bool) → Term → Bool
 is_empty_with none (expansion pattern) = bare pattern && none
 is_empty_with none (pack elements) = is_empty_with none elements

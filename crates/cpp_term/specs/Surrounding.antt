@@ -45,8 +45,8 @@ extended (behind t listed) piece = within t piece
 unfoldable pub with_tag : Term → List ℕ → Term
 with_tag t tag = tagged (is_structor t) t tag
 
--- A name, with arguments if there are some. If a name follows it, that is this name with tags, perhaps with arguments after
--- these, and takes its place.
+-- A name, with arguments if there are some. If a name follows instead, that name is this one with tags, perhaps with
+-- arguments after the tags, and replaces it.
 unfoldable pub applied : Term → Value → Term
 applied t (named u qualifiers ref) = u
 applied t v = elim (is_there v) [ true ↦ instance t (tree_of v) | false ↦ t ]

@@ -23,9 +23,9 @@ pub data Term : Type 0 where
   local : (encoding entity : Term) → (discriminator : Option (List ℕ)) → Term
   -- a data member or a variable, as the prefix of what is in its initializer
   holder : (name : Term) → Term
-  -- a name with one more tag, and whether it is that of a constructor or a destructor
+  -- a name with one more tag, and whether the name is that of a constructor or a destructor
   tagged : (of_structor : Bool) → (name : Term) → (tag : List ℕ) → Term
-  -- the entity of a local name in a default argument, and the digits that say in which argument
+  -- the entity of a local name in a default argument, and the digits that say which argument this is
   of_default : (digits : List ℕ) → (entity : Term) → Term
   abbreviation : (letter : ℕ) → Term
   -- a parameter by its number, and the argument that it names
@@ -81,7 +81,7 @@ pub data Term : Type 0 where
   -- An operation of an expression, by the two letters of its operator. A missing operand is absent; the right one may be a
   -- list. An operator with three operands is two operations.
   operation : (first second : ℕ) → (left right : Term) → Term
-  -- a parameter of the function whose types it occurs in, as an expression, by its digits
+  -- a parameter of a function, by its digits, as an expression in the function's types
   function_parameter : (digits : List ℕ) → Term
   pack : (elements : Term) → Term
   -- lists, and the absent tree: the return type of a function that has none

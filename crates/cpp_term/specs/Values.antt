@@ -4,8 +4,8 @@ use Rattle.cpp_term.specs.Term.{Term, destructor, absent}
 use Rattle.cpp_grammar.specs.Term.{Qualifiers, RefQualifier, any_value, lvalue_only, rvalue_only, explicit_object, Signed, Adjustment, non_virtual}
 use Rattle.cpp_grammar.specs.Values.{Counted, Counting, Showing, unqualified}
 
--- a tree that a substitution may name, where the encoding that it was made in begins, whether it was made in a lambda's signature
--- of that encoding, or in the declaration of an argument, and by which compilers it's counted
+-- a tree that a substitution may name; where the encoding that it was made in begins; whether it was made in a lambda's signature
+-- of that encoding, or in the declaration of an argument; and which compilers count it
 pub record Candidate : Type 0 where
   pub tree : Term
   pub encoding : ℕ
@@ -32,9 +32,9 @@ unfoldable pub prefix_listed : Prefix → Bool
 prefix_listed outermost = true
 prefix_listed (behind t listed) = listed
 
--- What surrounds a part: the arguments that parameters name there, the place where the innermost encoding begins, whether the
--- part is in a lambda's signature of that encoding, in the declaration of an argument or in a constraint, whether it is under an
--- expansion, the name so far, and whether the part is shown.
+-- What surrounds a part: the arguments that parameters name there; the place where the innermost encoding begins; whether the
+-- part is in a lambda's signature of that encoding, in the declaration of an argument or in a constraint; whether it is under an
+-- expansion; the name so far; and whether the part is shown.
 pub record Around : Type 0 where
   pub scope : Option Term
   pub encoding : ℕ
@@ -56,8 +56,8 @@ pub data Value : Type 0 where
   piece : Term → Value
   -- the name of an encoding, with the qualifiers that belong to the encoding
   named : Term → Qualifiers → RefQualifier → Value
-  -- A letter and two trees; the second may be absent. They are the operands of an operator with this second letter, or
-  -- arguments with the name before them: the name of an inherited constructor's base class, or of this concept.
+  -- A letter and two trees; the second tree may be absent. The trees are the operands of an operator with this second
+  -- letter, or arguments with the name before them: the name of an inherited constructor's base class, or of a concept.
   pair : (second : ℕ) → (left right : Term) → Value
   -- the parameters of a function type, and its mark
   signature : Term → RefQualifier → Value

@@ -29,8 +29,8 @@ ghost use Rattle.cpp_term.specs.ReadAs.{IsReadAs};
 ghost use Rattle.cpp_term.specs.Term.{Term, symbol, parameter};
 ghost use Rattle.cpp_term.specs.Values.{Value, State};
 
-/// What is shown of an item whose parameters carry their arguments is what is shown of the item without them: the same texts,
-/// and the same items with their arguments, in each detail and form. So texts and costs are the same.
+/// An item whose parameters carry their arguments shows what the item without them shows: the same texts, and the same items with their
+/// arguments, in each detail and form. So texts and costs are the same.
 pub fn parts_are_annotated()
     ensures { (detail : Detail) (item : Item) → part_.parts detail (noted_item item) ≡ noted_parts (leaf_.parts detail item) }
 {}
@@ -42,8 +42,8 @@ pub fn trees_are_annotated()
     ensures wide { (shape : Tree) → IsTree wide (Kind 0) shape → wide_.unfold_wide shape ≡ noted_tree (unfold_wide shape) }
 {}
 
-/// The tree that a symbol is read into is, without its arguments, the tree of the symbol. This one determines the arguments: two
-/// symbols with the same tree have the same arguments. The tree that is read is an encoding with what follows it.
+/// Without its arguments, the tree that a symbol is read into is the tree of the symbol. The tree of the symbol determines the arguments:
+/// two symbols with the same tree have the same arguments. The tree that is read is an encoding with what follows it.
 pub fn arguments_are_erased()
     ensures tree { (shape : Tree) (t : Term) → IsTree wide (Kind 0) shape → unfolded_.unfold_cpp shape ≡ Ok t → unfolding_.unfold_cpp shape ≡ Ok (erase t) }
     ensures carries { (shape : Tree) (t : Term) → IsTree wide (Kind 0) shape → unfolded_.unfold_cpp shape ≡ Ok t → CarriesArguments t }
@@ -51,7 +51,7 @@ pub fn arguments_are_erased()
     ensures refused { (shape : Tree) (refusal : Refusal) → IsTree wide (Kind 0) shape → unfolded_.unfold_cpp shape ≡ Err refusal → unfolding_.unfold_cpp shape ≡ Err refusal }
 {}
 
-/// What a well shaped symbol is read as, part by part, is one tree, which without its arguments is the tree of the symbol.
+/// A well shaped symbol, read part by part, is one tree. Without its arguments it is the tree of the symbol.
 pub fn symbols_are_read_as_trees()
     ensures wide { (shape : Tree) (read : Found (List Value) State) → IsTree wide (Kind 0) shape → unfold_tree wide_.cpp_wide unfolded_.first_around 0 shape unfolded_.first_state ≡ Ok read → IsReadAs (unfold_wide shape) read.value }
     ensures abi { (shape : Tree) (read : Found (List Value) State) → IsTree wide (Kind 0) shape → unfold_tree unfolded_.cpp unfolded_.first_around 0 shape unfolded_.first_state ≡ Ok read → IsReadAs (unfolding_.unfold_cpp shape) read.value }
@@ -62,18 +62,18 @@ pub fn texts_are_the_same()
     ensures { (detail : Detail) (t : Term) → CarriesArguments t → noted_shown detail t ≡ shown detail (root_item (erase t)) }
 {}
 
-/// The answer for a well shaped symbol is that for its tree whose parameters carry their arguments: the text where that costs
-/// at most the limit, in either detail, or the refusal with its place.
+/// A well shaped symbol has the same answer as its tree with arguments in the parameters: the text if that costs at most the limit, in
+/// either detail, or the refusal with its place.
 pub fn answers_are_the_same()
     ensures wide { (detail : Detail) (limit : ℕ) (shape : Tree) → IsTree wide (Kind 0) shape → noted_answer detail limit (wide_.unfold_wide shape) ≡ answer_within detail limit (unfold_wide shape) }
     ensures abi { (detail : Detail) (limit : ℕ) (shape : Tree) → IsTree wide (Kind 0) shape → noted_answer detail limit (unfolded_.unfold_cpp shape) ≡ answer_within detail limit (unfolding_.unfold_cpp shape) }
 {}
 
-/// A tree with another argument in each of its free parameters, or with the elements of a list. If
-/// no other argument is given, it is the tree itself; if two are, the outer one counts. Nothing
-/// changes where no parameter is free, nor in the tree without arguments. The length of its packs,
-/// the head of a type and whether it prints nothing are those of the tree, or follow from the
-/// argument.
+/// A tree with another argument in each of its free parameters, or with the elements of a list in
+/// them. If no other argument is given, the result is the tree itself; if two are given, the outer
+/// one counts. If no parameter is free, nothing changes; the tree without arguments never changes.
+/// The length of the result's packs, its head if it is a type, and whether it prints nothing are as
+/// in the tree, or follow from the argument.
 pub fn arguments_are_replaced()
     ensures none { (t : Term) → reargued None t ≡ t }
     ensures twice { (c : Option Term) (a t : Term) → reargued (Some a) (reargued c t) ≡ reargued (Some a) t }

@@ -4,7 +4,7 @@ use Rattle.std.proofs.lemmas.List.{map-append}
 use Rattle.cpp_grammar.specs.Items as heads
 use Rattle.cpp_tree.specs.declared.node.Signed.{Signed}
 
--- of two lengths, the first that is kept counts
+-- the first of two lengths counts, if it isn't 0
 pub some-packs : (m n : ℕ) → (m ≡ 0 → ⊥) → packs_kept m ≡ first_of (packs_kept m) (packs_kept n)
 unfolding packs_kept first_of
 some-packs zero n some = absurd (some refl)

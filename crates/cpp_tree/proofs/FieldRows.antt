@@ -42,7 +42,7 @@ table-row : fields_of (thunk (adjusting (by_table (record { negative = false; di
 unfolding fields_of thunk_fields bit
 table-row = refl
 
--- three offsets determine themselves
+-- the three offsets of a thunk
 abbrev wide : Thunk
 wide = covariant (non_virtual eight) (by_table eight eight)
 

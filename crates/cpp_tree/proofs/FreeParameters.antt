@@ -1,4 +1,4 @@
--- Whether a tree has free parameters, from which ones it has.
+-- Whether a tree has free parameters, given which parameters are free in it.
 use Rattle.cpp_tree.proofs.Basics.{◌≡◌, refl, ap, ◌∙◌, sym, nat_eq, max, ℕ, length, ◌<◌, Bool, true, false, ◌||◌, is_open, free_in, both, Table, tree_at, trees, entry_at, free_is, has_free, IsTable}
 use Rattle.cpp_grammar.specs.Scope.{Free, none_free, one_free, several_free, both_free}
 use Rattle.cpp_term.specs.Term.{Term, alone, in_std, within, instance, local, holder, tagged, of_default, inheriting, lambda, conversion, pointer, lvalue, rvalue, array, constrained, bounded, member_pointer, function_type, qualified, vector, complex, decltype, expansion, integer, operation, pack, list, enumeration, bindings, declaring}
@@ -56,6 +56,6 @@ open-free (pack elements) = open-free elements
 open-free (list e rest) = either-open (free_in e) (free_in rest) (open-free e) (open-free rest)
 open-free _ = refl
 
--- likewise for the tree of a node
+-- the entry of a node says whether the node's tree has free parameters
 pub node-open : (y : Table) (i : ℕ) → IsTable y → i < length y.nodes → has_free (free_is (entry_at y.nodes i).free) ≡ is_open (tree_at (trees y) i)
 node-open y i table less = ap has_free (table.each i less).free ∙ sym (open-free (tree_at (trees y) i))

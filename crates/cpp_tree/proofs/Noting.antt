@@ -1,4 +1,4 @@
--- What is noted of a node is what its tree has.
+-- What is noted of a node holds of the node's tree.
 use Rattle.cpp_tree.proofs.Basics.{◌≡◌, refl, sym, ap, ◌∙◌, ℕ, zero, suc, ◌+◌, ◌-◌, ◌<◌, ◌≤◌, arith, List, length, Bool, true, false, not, cond, nat_eq, max, ◌||◌, ◌&&◌, Option, None, Some, eqb-true, true≢false, Term, free_in, both, Piece, Node, Table, tree_at, piece_of, tree_of, trees, entry_at, IsPieceBelow, IsBelow, IsAliasBelow, IsPlacedBelow, IsClassBelow, IsPlacedThere, IsTable, tree_if_there, tree_under, class_is, head_of, placed_if_there, untagged_is, head_noted, by_argument_of, free_is, is_again, IsFlat, IsLone, IsSettled, IsNoted, arguments_of, without_tags, before_arguments, pack_length, length_if_pack, is_structor, has_return_type, count, element, is_alone, has_pack, is_open, Head, Placed, HeadClass, HeadFrom, Free, ByArgument, reargued, reargued_if_there, argument_or, given_alone, bare, head_from, class_from, is_empty_with, Entry, reargued_none, reargued_twice, reargued_lone, given_alone_twice, open_reargued, alone_reargued, has_pack_reargued, free_reargued, count_reargued, arguments_reargued, untagged_reargued, structor_reargued, returns_reargued, bare_reargued, length_reargued, head_from_reargued, empty_with_reargued, pack_reargued, class_reargued, empty_reargued, free_at, both_free, piece_frees, frees, by_argument_at, passed, joined, piece_by_argument, collapses_from, of_expansion, of_pack, of_head, node_by_argument, empty_by, place_of, resolved_at, shape_at, placed_under, if_own, packs_by, empties, ends_in, or_itself, untagging, collapses, pack_class, argument_class, class_by, classes, packs_at, argument_packs, piece_packs, packing, is_structor_piece, is_structor_node, is_argument_node, alone_at, having_pack, returning, counting, running, noting}
 use Rattle.cpp_grammar.specs.Scope as scope
 use Rattle.cpp_term.specs.Term as term
@@ -39,7 +39,7 @@ pub by_argument_reargued : (c : Option Term) (t : Term) → by_argument_of (rear
 unfolding by_argument_of
 by_argument_reargued c t = rw (bare_reargued c t, head_from_reargued c t, empty_with_reargued true c t, empty_with_reargued false c t) refl
 
--- this tree is no name and no list, as is each type whose head isn't its own
+-- this tree is neither a name nor a list; each type whose head isn't its own is such a tree
 pub record IsPlain (t : Term) : Type 0 where
   pub no_arguments : arguments_of t ≡ None
   pub no_tags : without_tags t ≡ t
@@ -390,7 +390,7 @@ module _ (y : Table) (table : IsTable y) where
   class-chosen again.of_argument own given = refl
   class-chosen again.collapsed_of_argument own given = collapse-is (trees y) given
 
-  -- the head of a re-read tree, from its own and that of a parameter with this argument
+  -- the head of a re-read tree, from the tree's own head and that of a parameter with this argument
   class-given : (t a : ℕ) → t < length y.nodes → a < length y.nodes
       → class_is (trees y) (class_by (by_argument_at y.nodes t).head (entry_at y.nodes t).class (argument_class y.nodes a)) ≡ class_from (head_from (tree_at (trees y) t)) (items.class_of (tree_at (trees y) t)) (items.class_of (term.parameter 0 (tree_at (trees y) a)))
   class-given t a less few =
@@ -403,7 +403,7 @@ module _ (y : Table) (table : IsTable y) where
       → class_is (trees y) (class_by (by_argument_at y.nodes t).head (entry_at y.nodes t).class (argument_class y.nodes a)) ≡ items.class_of (reargued (Some (tree_at (trees y) a)) (tree_at (trees y) t))
   class-again t a less few lone = class-given t a less few ∙ sym (lone-class (tree_at (trees y) a) (tree_at (trees y) t) lone)
 
-  -- the head of a re-read tree, from its own and the argument of its one parameter
+  -- the head of a re-read tree, from the tree's own head and the argument of its one parameter
   pub class-by-given : (t g : ℕ) (a : Term) → t < length y.nodes → g < length y.nodes → tree_at (trees y) g ≡ given_alone a (free_in (tree_at (trees y) t))
       → class_is (trees y) (class_by (by_argument_at y.nodes t).head (entry_at y.nodes t).class (argument_class y.nodes g)) ≡ items.class_of (reargued (Some a) (tree_at (trees y) t))
   class-by-given t g a less few is =
@@ -657,7 +657,7 @@ module _ (y : Table) (table : IsTable y) where
   node-told (Node.Reargued t a) b = told-again t a (by_argument_at y.nodes t).head b.0 refl ∙ sym (has_pack_reargued (Some (tree_at (trees y) a)) (tree_at (trees y) t))
   node-told _ b = refl
 
-  -- what is noted of a node is what its tree has
+  -- what is noted of a node holds of the node's tree
   pub noted : (n : Node) → IsFlat y.nodes n → IsSettled (trees y) n → IsBelow y.bytes (length y.thunks) (length y.nodes) n → IsNoted y (noting y.nodes n)
   noted n flat lone b = record {
     below = b;

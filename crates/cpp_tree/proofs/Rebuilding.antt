@@ -184,7 +184,7 @@ same-fields : (p q : ℕ) (ns ms : List ℕ) (ts us : List (List ℕ)) (xs ys : 
     → ◌≡◌ {A = Fields} (record { production = p; numbers = ns; texts = ts; parts = xs }) (record { production = q; numbers = ms; texts = us; parts = ys })
 same-fields p q ns ms ts us xs ys e f g h = cc
 
--- the offsets matter only to the production of thunks with more than two
+-- the offsets matter only to the production of thunks with more than two offsets
 same-offsets : (given : Fields) (one other : Option Thunk) → (given.production ≡ WIDE_THUNK → one ≡ other) → tree_from given one ≡ tree_from given other
 same-offsets given one other same = by-production (given.production == WIDE_THUNK) refl
   where

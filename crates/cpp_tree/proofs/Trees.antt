@@ -6,7 +6,7 @@ use Rattle.cpp_term.specs.Items as items
 use Rattle.cpp_tree.specs.declared.node.Thunk.{Thunk}
 use Rattle.cpp_tree.proofs.Noting.{class-later, again-pack, again-empty, alone-shape}
 
--- a node's tree is its production over those of its parts, which are earlier
+-- a node's tree is its production over the trees of its parts, which are earlier nodes
 pub node_is : (y : Table) (i : ℕ) (n : Node) → IsTable y → i < length y.nodes → (entry_at y.nodes i).node ≡ n
     → (tree_at (trees y) i ≡ tree_of y.bytes y.thunks (trees y) n) × IsBelow y.bytes (length y.thunks) i n
 node_is y i n table less is =
@@ -37,7 +37,7 @@ pub element_next : (t first rest : Term) (k : ℕ) → t ≡ list first rest →
 unfolding element
 element_next t first rest k is = rw is refl
 
--- within a run, a list's elements from place k on are those of the cell k nodes before it
+-- within a run, a list's elements from place k on are those of the cell that is k nodes before the list's own
 pub run_is : (y : Table) (i k n : ℕ) → IsTable y → i < length y.nodes → k ≤ (entry_at y.nodes i).run → element (tree_at (trees y) i) (k + n) ≡ element (tree_at (trees y) (i - k)) n
 run_is y i zero n table less most = ap (λ m. element (tree_at (trees y) i) m) (let e : 0 + n ≡ n = omega arith in e) ∙ ap (λ m. element (tree_at (trees y) m) n) (let e : i ≡ i - 0 = omega arith in e)
 run_is y i (suc k) n table less most = (table.each i less).runs k n (omega (arith, most))
@@ -116,7 +116,7 @@ pub placed-some : (ts : List Term) (p : Placed) (a : ℕ) → p.under ≡ Some a
 unfolding tree_under tree_if_there
 placed-some ts p a is = ap (λ u. reargued (tree_if_there ts u) (tree_at ts p.node)) is
 
--- of two arguments the outer one counts
+-- the outer of two arguments counts
 pub over-some : (ts : List Term) (a : ℕ) (inner : Placed) (t : Term) → tree_under ts inner ≡ t → tree_under ts (record { node = inner.node; under = Some a }) ≡ reargued (Some (tree_at ts a)) t
 unfolding tree_under tree_if_there
 over-some ts a inner t is = sym (reargued_twice (tree_if_there ts inner.under) (tree_at ts a) (tree_at ts inner.node)) ∙ ap (reargued (Some (tree_at ts a))) is
@@ -372,7 +372,7 @@ packs_again y p held a given result table less few at under given-is is =
 
 -- ## Packs
 
--- a tree that is a pack has as many elements under an argument
+-- a tree that is a pack has as many elements under an argument as without it
 pub pack_length_is : (y : Table) (p : Placed) (elements many : ℕ) → IsTable y → p.node < length y.nodes → (entry_at y.nodes p.node).node ≡ Node.Pack elements → many ≡ (entry_at y.nodes elements).count
     → Some many ≡ length_if_pack (tree_under (trees y) p)
 unfolding tree_under tree_of length_if_pack

@@ -165,7 +165,7 @@ own_entry n packs free is_empty by_argument words first second argument = record
   has_pack = has_pack_kept words;
 }
 
--- likewise, by the entry of the tree and the head that a parameter with the argument has
+-- the entry of an alias, by the entry of its tree and the head that a parameter with the argument has
 abbrev pub restated_entry : (n : Node) (packs : Option ℕ) (is_empty : Bool) (own : Entry) (argument : ℕ) (given : HeadClass) → Entry
 restated_entry n packs is_empty own argument given = record {
   node = n;

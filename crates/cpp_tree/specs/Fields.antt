@@ -58,7 +58,7 @@ name_fields names prefix whole _ = no_node whole
 abbrev pub GUARD_LETTER : ℕ
 GUARD_LETTER = 86
 
--- the fields of a special name of a name: its numbers are the letter, and one number for qualifiers and mark
+-- the fields of a special name that is about a name: its numbers are the letter, and one number for qualifiers and mark
 unfoldable pub named_fields : (letter : ℕ) → (name : Term) → Qualifiers → RefQualifier → Fields
 named_fields letter name q mark =
     if letter == GUARD_LETTER then fields GUARD (qualifiers_number q) (mark_number mark) [] (name ∷ [])
@@ -173,7 +173,7 @@ qualifiers_in n = get_or (
     ∷ these true true true
     ∷ []) n (these false false false)
 
--- qualifiers and mark of one number
+-- the qualifiers and the mark that one number encodes
 abbrev pub qualifiers_of_both : ℕ → Qualifiers
 qualifiers_of_both n = qualifiers_in (if nat_lt n 8 then n else if nat_lt n 16 then n - 8 else if nat_lt n 24 then n - 16 else n - 24)
 

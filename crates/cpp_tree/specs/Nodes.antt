@@ -26,8 +26,8 @@ use Rattle.cpp_tree.specs.declared.node.Free.{Free}
 use Rattle.cpp_tree.specs.declared.node.ByArgument.{ByArgument}
 use Rattle.cpp_tree.specs.declared.node.Entry.{Entry}
 
--- what is stored: the nodes, and what thunks adjust; how many of each fit without taking memory; and the most of each
--- that there were when the table was begun again
+-- what is stored: the nodes, and what thunks adjust; how many of each fit without taking memory; and the highest number
+-- of each at the times when the table was begun again
 pub record Stored : Type 0 where
   pub nodes : List Entry
   pub thunks : List Thunk
@@ -88,7 +88,7 @@ unfoldable pub tree_if_there : List Term → Option ℕ → Option Term
 tree_if_there ts None = None
 tree_if_there ts (Some i) = Some (tree_at ts i)
 
--- what a word says: a node, by its number plus one, or no node, for 0
+-- the node that a word denotes: the word is the node's number plus one, or 0 for no node
 unfoldable pub under_kept : ℕ → Option ℕ
 under_kept zero = None
 under_kept (suc n) = Some n
@@ -306,11 +306,11 @@ head_noted again.of_its_own = HeadFrom.Own
 head_noted again.of_argument = HeadFrom.Argument
 head_noted again.collapsed_of_argument = HeadFrom.Collapsed
 
--- what of a tree depends on another argument
+-- how a tree depends on another argument
 unfoldable pub by_argument_of : Term → ByArgument
 by_argument_of t = record { is_bare = bare t; head = head_noted (head_from t); empty_with = is_empty_with true t; empty_without = is_empty_with false t }
 
--- nothing of a tree depends on another argument
+-- nothing in a tree depends on another argument
 abbrev pub by_none : Bool → ByArgument
 by_none empty = record { is_bare = false; head = HeadFrom.Own; empty_with = empty; empty_without = empty }
 
@@ -335,8 +335,8 @@ abbrev pub IsSettled : List Term → Node → Type 0
 IsSettled ts (Node.Reargued t a) = IsLone (tree_at ts a) (tree_at ts t)
 IsSettled ts _ = Unit {0}
 
--- What holds of the node at a place: all that is noted follows from its tree. A cell's run is how many of the nodes before it
--- are the cells after it, so that an element is found by a subtraction.
+-- What holds of the node at a place: all that is noted follows from its tree. A cell's run is how many nodes right before the
+-- cell are the later cells of its list, so that an element is found by a subtraction.
 pub record IsEntry (y : Table) (ts : List Term) (i : ℕ) (e : Entry) : Type 0 where
   pub built : tree_at ts i ≡ tree_of y.bytes y.thunks ts e.node
   pub below : IsBelow y.bytes (length y.thunks) i e.node
@@ -371,7 +371,7 @@ pub record IsTable (y : Table) : Type 0 where
 
 -- ## One more node
 
--- The node is made of existing ones, and what is noted of it is what its tree has.
+-- The node is made of existing ones, and what is noted of it holds of its tree.
 pub record IsNoted (y : Table) (e : Entry) : Type 0 where
   pub below : IsBelow y.bytes (length y.thunks) (length y.nodes) e.node
   pub packs : e.packs ≡ pack_length (tree_of y.bytes y.thunks (trees y) e.node)

@@ -74,7 +74,7 @@ frees es _ = Free.None
 abbrev pub by_argument_at : List Entry → ℕ → ByArgument
 by_argument_at es i = (entry_at es i).by_argument
 
--- what another argument changes of a tree with one part, and of a tree with two: only the packs
+-- what another argument changes in a tree with one part (`passed`) or with two parts (`joined`): only the packs
 unfoldable pub passed : ByArgument → ByArgument
 passed l = record { is_bare = l.is_bare; head = HeadFrom.Own; empty_with = false; empty_without = false }
 
@@ -141,7 +141,7 @@ node_by_argument es (Node.Cell first rest) = of_cell (by_argument_at es first) (
 node_by_argument es (Node.Reargued t a) = by_argument_at es t
 node_by_argument es _ = by_none false
 
--- whether an alias prints nothing, by its argument
+-- whether an alias prints nothing, given its argument
 unfoldable pub empty_by : (none : Bool) → ByArgument → Bool
 empty_by none l = cond none l.empty_with l.empty_without
 

@@ -38,7 +38,7 @@ pub record AreAlike (s t : List ℕ) (first second : Node) (one other : Term) : 
   pub equal : (k : ℕ) → k < first.parts → slice_get (fields_of one).parts k ≡ slice_get (fields_of other).parts k
   pub offsets : first.production ≡ WIDE_THUNK → offsets_of one ≡ offsets_of other
 
--- no bytes of any symbol
+-- a span without bytes
 abbrev pub no_text : Span
 no_text = record { from = 0; to = 0 }
 
@@ -46,7 +46,7 @@ abbrev pub seen_of : (production : ℕ) → (numbers : List ℕ) → (texts : Li
 seen_of production numbers texts count parts =
     record { node = record { production = production; numbers = numbers; texts = texts; parts = count }; parts = parts }
 
--- likewise for a name, after a prefix if there is one
+-- the view of a name with these numbers and this text, after a prefix if there is one
 abbrev pub seen_behind : (production : ℕ) → (numbers : List ℕ) → (text : Span) → (prefix : Option ℕ) → NodeView
 seen_behind production numbers text None = seen_of production numbers (text ∷ no_text ∷ []) 0 (0 ∷ 0 ∷ 0 ∷ [])
 seen_behind production numbers text (Some prefix) = seen_of production numbers (text ∷ no_text ∷ []) 1 (prefix ∷ 0 ∷ 0 ∷ [])
@@ -75,7 +75,7 @@ IsSlotBelow n (Some part) = part < n
 abbrev pub AreWithin : List ℕ → List Span → Type 0
 AreWithin s texts = All (λ text. IsWithin text s) texts
 
--- What the view of a node shows: its fields, with texts within the symbol, and with parts below whatever bounds the node's parts.
+-- What the view of a node shows: its fields, with texts within the symbol, and with parts below each bound of the node's parts.
 pub record IsSeen (y : Table) (node : table.Node) (seen : NodeView) : Type 0 where
   pub fields : seen_fields y seen ≡ fields_of (erase (tree_of y.bytes y.thunks (trees y) node))
   pub texts : AreWithin y.bytes seen.node.texts

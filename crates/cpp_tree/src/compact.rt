@@ -8,8 +8,8 @@ ghost use Rattle.cpp_tree.specs.Notes.{bare_entry};
 
 use crate::node::{ByArgument, Entry, Free, Head, HeadClass, HeadFrom, Node, Placed, under_of};
 
-/// What the two words next to a node record: for a type a list of elements; for a name its
-/// arguments, or the name without its tags, each with the argument under which it is; for a list
+/// What the two words next to a node record. For a type: a list of elements. For a name: its
+/// arguments, or the name without its tags, each with the argument that it is under. For a list:
 /// its count, its run, and whether it has a pack among its elements.
 #[derive(Clone, Copy)]
 pub enum TypeHead {
@@ -115,7 +115,7 @@ fn untagged(words: TypeHead, first: u32, second: u32) -> Option<Placed>
     }
 }
 
-/// Whether a function of a name has its return type.
+/// Whether a function with such a name has its return type before its parameters.
 #[inline(always)]
 #[tactic(auto, unfolding(crate::specs::Compact::returns_kept))]
 fn returns(words: TypeHead) -> bool
@@ -140,7 +140,7 @@ fn count(words: TypeHead, first: u32) -> u32
     }
 }
 
-/// How many of the nodes right before a cell are the cells after it.
+/// How many nodes right before a cell are the later cells of its list.
 #[inline(always)]
 #[tactic(auto, unfolding(crate::specs::Compact::run_kept))]
 fn run(words: TypeHead, second: u32) -> u32
@@ -201,7 +201,7 @@ impl Compact {
     }
 }
 
-/// What another argument changes of a tree in which no parameter is free.
+/// What another argument changes in a tree without free parameters.
 #[inline(always)]
 pub(crate) fn by_none(empty: bool) -> ByArgument
     ensures { result ≡ by_none empty }

@@ -98,7 +98,7 @@ impl Nodes {
         }
     }
 
-    /// The node of a tree in which no parameter is free: the argument under which it is doesn't change it.
+    /// The node of a tree in which no parameter is free, so that no argument changes the tree.
     #[inline(always)]
     pub fn closed_node(&self, symbol: &[u8], tree: Placed) -> u32
         requires table { IsTable (over symbol.now self.now) }
@@ -150,8 +150,8 @@ impl Nodes {
         ABSENT
     }
 
-    /// What a parameter of this number gets: its own element of a list of arguments, and any other argument itself. It is found
-    /// at once where the list's cells were made one after the other.
+    /// What a parameter of this number gets: its own element if the argument is a list, and otherwise the argument itself. An element is
+    /// found at once if the list's cells were made one after the other.
     pub fn given_for(&self, symbol: &[u8], given: u32, number: u32) -> u32
         requires table { IsTable (over symbol.now self.now) }
         requires given { given < length self.now.nodes }
@@ -181,7 +181,7 @@ impl Nodes {
         }
     }
 
-    /// The length of an argument that is a pack: it has as many elements under another argument.
+    /// The length of an argument that is a pack, which is the same under any other argument.
     pub fn length_if_pack(&self, symbol: &[u8], argument: u32) -> Option<u32>
         requires table { IsTable (over symbol.now self.now) }
         requires below { argument < length self.now.nodes }

@@ -149,7 +149,8 @@ pub(crate) fn empty_by(none: bool, held: ByArgument) -> bool
     }
 }
 
-/// The head of a type with another argument, by its own and that of a parameter with the argument.
+/// The head of a type with another argument, by the type's own head and the head that a parameter
+/// has with this argument.
 #[tactic(auto, unfolding(crate::specs::Notes::class_by, crate::specs::Notes::collapses))]
 fn chosen(from: HeadFrom, own: HeadClass, given: HeadClass) -> HeadClass
     ensures { result ≡ class_by from own given }

@@ -9,7 +9,7 @@ ghost use Rattle.cpp_tree.specs.Views.{IsView, AreAlike};
 ghost use Rattle.cpp_tree.specs.declared.view.Node.{Node};
 
 /// A tree is its production over its numbers, its texts and the trees of its parts, and for a thunk
-/// of more than two offsets also over these.
+/// of more than two offsets also over the offsets.
 pub fn fields_make_the_tree()
     ensures { (one : Term) → tree_from (fields_of one) (offsets_of one) ≡ one }
 {}

@@ -1,4 +1,4 @@
-//! What a C++ symbol denotes: its nodes, which share their parts, what is noted of their trees, and how they are seen: a
+//! What a C++ symbol denotes: its nodes, which share parts; what is noted of the nodes' trees; and the view of each node, which is a
 //! production, numbers, texts and parts.
 #![tactic(auto)]
 

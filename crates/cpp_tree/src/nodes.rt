@@ -22,8 +22,8 @@ use sym_room::make_room;
 pub struct Nodes {
     pub(crate) entries: Vec<Compact>,
     pub(crate) thunks: Vec<Thunk>,
-    // The most nodes, and the most thunks, that there were when the table was begun again. With the
-    // present ones they bound the memory of both lists.
+    // The highest number of nodes, and the highest number of thunks, at the times when the table
+    // was begun again. Together with the present numbers they bound the memory of both lists.
     most: usize,
     most_thunks: usize,
 }
@@ -57,8 +57,9 @@ pub const AUTO: u32 = 3;
 ///
 /// # Errors
 ///
-/// `AllocError` where there is none; the list is unchanged then.
-// Apart from its caller, so that adding a node where there is room for it takes few registers.
+/// `AllocError` if there is no memory; the list is then unchanged.
+// This is apart from its caller, so that adding a node where there is room for it takes few
+// registers.
 #[inline(never)]
 fn grow(entries: &mut Vec<Compact>) -> Result<(), AllocError>
     ensures items { entries.new.items ≡ entries.old.items }
@@ -71,11 +72,11 @@ fn grow(entries: &mut Vec<Compact>) -> Result<(), AllocError>
     make_room(entries, 1)
 }
 
-/// Makes room for one more node, where there is none.
+/// Makes room for one more node, if there is none.
 ///
 /// # Errors
 ///
-/// `AllocError` where it got none; the list is unchanged then.
+/// `AllocError` if there is no memory; the list is then unchanged.
 #[inline(always)]
 fn make_room_for_one(entries: &mut Vec<Compact>) -> Result<(), AllocError>
     ensures items { entries.new.items ≡ entries.old.items }
@@ -107,7 +108,7 @@ impl Nodes {
         }
     }
 
-    /// Removes all nodes, keeps their memory, and puts the four at the front of each table.
+    /// Removes all nodes, keeps their memory, and adds the four nodes that each table begins with.
     ///
     /// # Errors
     ///
@@ -146,8 +147,8 @@ impl Nodes {
         self.entries.len()
     }
 
-    /// For how many nodes there is memory, of 48 bytes each: at most for twice the most that there were at once since the table
-    /// was made, and for 8 more.
+    /// How many nodes, of 48 bytes each, there is memory for: at most twice the highest number of nodes at once since the table was made,
+    /// plus 8.
     pub fn room(&self) -> usize
         ensures is { result ≡ self.now.node_room }
         ensures bounded { result ≤ most_for (max self.now.most (length self.now.nodes)) }
@@ -155,7 +156,7 @@ impl Nodes {
         self.entries.capacity()
     }
 
-    /// For how many thunks there is memory, of 60 bytes each: at most for twice the most that there were at once, and for 8 more.
+    /// How many thunks, of 60 bytes each, there is memory for: at most twice the highest number of thunks at once, plus 8.
     pub fn thunk_room(&self) -> usize
         ensures is { result ≡ self.now.thunk_room }
         ensures bounded { result ≤ most_for (max self.now.most_thunks (length self.now.thunks)) }
@@ -241,7 +242,7 @@ impl Nodes {
         }
     }
 
-    /// A name without its tags: the one under them, or itself.
+    /// A name without its tags: the name under them, or the name itself.
     #[inline(always)]
     pub fn untagged(&self, symbol: &[u8], name: Placed) -> Placed
         requires table { IsTable (over symbol.now self.now) }
@@ -276,8 +277,8 @@ impl Nodes {
         }
     }
 
-    /// The argument of an alias: if the tree has the head of its one parameter, that parameter's
-    /// argument.
+    /// The argument that an alias gets: what the given argument has for the tree's one parameter,
+    /// if the tree has that parameter's head; otherwise the given argument.
     #[inline(always)]
     fn lone(&self, symbol: &[u8], tree: u32, argument: u32) -> u32
         requires table { IsTable (over symbol.now self.now) }
@@ -294,7 +295,7 @@ impl Nodes {
         }
     }
 
-    /// The node with a tree that isn't an alias itself.
+    /// A node that denotes the same; if it is an alias, its tree isn't an alias itself.
     #[inline(always)]
     fn flat(&self, symbol: &[u8], node: Node) -> Node
         requires table { IsTable (over symbol.now self.now) }
@@ -316,7 +317,7 @@ impl Nodes {
         }
     }
 
-    /// Adds a node, and answers its number. It denotes its production over its parts' trees, and earlier nodes denote what they
+    /// Adds a node, and answers its number. The node denotes its production over its parts' trees, and earlier nodes denote what they
     /// denoted.
     ///
     /// # Errors

@@ -73,7 +73,7 @@ fn noted_over(
     }
 }
 
-/// The length of the packs of the first of two parts that has some.
+/// The length of packs in the first of two parts that has any.
 #[inline(always)]
 fn packs_of_two(one: Compact, other: Compact) -> u32
     ensures { packs_kept result ≡ first_of (packs_kept one.packs) (packs_kept other.packs) }
@@ -216,7 +216,7 @@ fn packs_given(is_bare: bool, given: u32) -> u32
     if is_bare { given } else { 0 }
 }
 
-/// The second word of an alias with this argument, where its head is its own.
+/// The second word of an alias with this argument, if its head is that of its tree.
 #[inline(always)]
 #[tactic(auto, unfolding(crate::specs::Nodes::under_kept, crate::specs::Compact::class_kept, crate::specs::Compact::arguments_kept, crate::specs::Compact::untagged_kept, crate::specs::Compact::returns_kept, crate::specs::Compact::count_kept, crate::specs::Compact::run_kept, crate::specs::Compact::has_pack_kept, crate::specs::Notes::placed_under))]
 fn second_under(held: Compact, argument: u32) -> u32
@@ -468,8 +468,8 @@ impl Nodes {
         }
     }
 
-    /// The run of the next cell, before this rest: how many nodes right before it are the cells
-    /// after it.
+    /// The run of the next cell to be added, whose rest is this node: how many nodes right before
+    /// that cell are the later cells of its list.
     #[inline(always)]
     fn run_to(&self, rest: u32) -> u32
         requires rest { rest < length self.now.nodes }

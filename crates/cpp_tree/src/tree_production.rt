@@ -1,8 +1,8 @@
 // The productions of trees: what the view of a node has for each.
 //
-// What a production doesn't mention is 0, no bytes or no part. A letter is its byte. Qualifiers are one number, the sum of 1
-// for restrict, 2 for volatile and 4 for const. A mark is 0 for none, 1 for & and 2 for &&. An offset is 1 where it is negative
-// among the numbers, and its digits without zeros in front among the texts.
+// What a production doesn't mention is 0, no bytes or no part. A letter is its byte. Qualifiers are one number, the sum of 1 for restrict,
+// 2 for volatile and 4 for const. A mark is 0 for none, 1 for &, 2 for && and 3 for an explicit object. An offset has a 1 among the numbers
+// if it is negative, and its digits without zeros in front among the texts.
 
 /// No tree: what takes the place of a return type that a function doesn't have.
 pub const ABSENT: u16 = 0;
@@ -31,15 +31,15 @@ pub const GUARD: u16 = 7;
 /// A thunk that adjusts one pointer by an offset. Numbers and texts: the offset. Parts: its encoding.
 pub const THUNK: u16 = 8;
 
-/// A thunk that adjusts one pointer by an offset, and by one that is in a table. Numbers and texts: the two offsets. Parts:
-/// its encoding.
+/// A thunk that adjusts one pointer by an offset, and by another offset that is in a table. Numbers and texts: the two offsets. Parts: its
+/// encoding.
 pub const TABLE_THUNK: u16 = 9;
 
 /// A thunk that adjusts two pointers, each by an offset. Numbers and texts: the two offsets. Parts: its encoding.
 pub const COVARIANT_THUNK: u16 = 10;
 
-/// A thunk that adjusts two pointers, one of them or both by an offset and by one in a table. Its three or four offsets are
-/// what `call_offsets` answers. Parts: its encoding.
+/// A thunk that adjusts two pointers, one of them or both by an offset and by another offset that is in a table. Its three or four offsets
+/// are what `call_offsets` answers. Parts: its encoding.
 pub const WIDE_THUNK: u16 = 11;
 
 /// A template with arguments. Parts: the template and the list of the arguments.
@@ -48,14 +48,14 @@ pub const INSTANCE: u16 = 12;
 /// A name in a function or an initializer. Parts: the encoding that contains it, and the name, whose prefix is that encoding.
 pub const LOCAL: u16 = 13;
 
-/// A name in a function or an initializer that has several of this name. Texts: the digits of its
-/// discriminator. Otherwise as `LOCAL`.
+/// A name in a function or an initializer that has several entities with this name. Texts: the
+/// digits of its discriminator. Otherwise as `LOCAL`.
 pub const NUMBERED_LOCAL: u16 = 14;
 
 /// An abbreviation of a name in std. Numbers: its letter.
 pub const ABBREVIATION: u16 = 15;
 
-/// A parameter of a template. Numbers: its number, counted from 0. Its argument is no part.
+/// A parameter of a template. Numbers: its number, counted from 0. Its argument isn't a part.
 pub const PARAMETER: u16 = 16;
 
 /// A builtin type of one letter. Numbers: the letter.
@@ -76,17 +76,17 @@ pub const LVALUE: u16 = 21;
 /// A reference to an rvalue. Parts: the type that it refers to.
 pub const RVALUE: u16 = 22;
 
-/// An array. Texts: the digits of its length, none where it has none. Parts: the type of its elements.
+/// An array. Texts: the digits of its length, or no digits if it has no length. Parts: the type of its elements.
 pub const ARRAY: u16 = 23;
 
 /// A pointer to a member. Parts: the class and the type of the member.
 pub const MEMBER_POINTER: u16 = 24;
 
-/// A function's type. Numbers: the sum of 1 where it is a function of C and 2 where it is noexcept, and its mark. Parts: its
-/// return type and its parameters.
+/// A function's type. Numbers: the sum of 1 if it is a function of C and 2 if it is noexcept; and its mark. Parts: its return type and its
+/// parameters.
 pub const FUNCTION_TYPE: u16 = 25;
 
-/// A type under qualifiers. Numbers: these. Parts: the type.
+/// A type under qualifiers. Numbers: the qualifiers. Parts: the type.
 pub const QUALIFIED: u16 = 26;
 
 /// A vector. Texts: the digits of its length. Parts: the type of its elements.
@@ -143,7 +143,7 @@ pub const STRING_LITERAL: u16 = 43;
 /// A name without a piece, which denotes nothing that is spelled.
 pub const NO_PIECE: u16 = 44;
 
-/// A name in std, otherwise as `SOURCE`. The next eight are also in std, each otherwise as the one that it is named after.
+/// A name in std, otherwise as `SOURCE`. The next eight are also in std; each is otherwise as the one that it is named after.
 pub const STD_SOURCE: u16 = 45;
 
 /// As `OPERATOR`, in std.
@@ -170,8 +170,8 @@ pub const STD_STRING_LITERAL: u16 = 52;
 /// As `NO_PIECE`, in std.
 pub const STD_NO_PIECE: u16 = 53;
 
-/// A name in a prefix, which is a name, a parameter, or the encoding around a local entity. Parts: the prefix. Otherwise as
-/// `SOURCE`. The next eight are also in a prefix, which is their first part, each otherwise as the one that it is named after.
+/// A name in a prefix, which is a name, a parameter, or the encoding around a local entity. Parts: the prefix. Otherwise as `SOURCE`. The
+/// next eight are also in a prefix, which is their first part; each is otherwise as the one that it is named after.
 pub const NESTED_SOURCE: u16 = 54;
 
 /// As `OPERATOR`, in a prefix.
@@ -198,12 +198,12 @@ pub const NESTED_STRING_LITERAL: u16 = 61;
 /// As `NO_PIECE`, in a prefix.
 pub const NESTED_NO_PIECE: u16 = 62;
 
-/// A tree that no node denotes: a piece of a name by itself, a name of what is no piece, a builtin type of another code. Parts:
-/// the tree itself. No node has this production.
+/// A tree that no node denotes: a piece of a name by itself, a name of what isn't a piece, a builtin type of another code. Parts: the tree
+/// itself. No node has this production.
 pub const NO_NODE: u16 = 63;
 
-/// A special name of a name that isn't a guard variable's. Numbers: the last letter of its code, and the sum of the qualifiers
-/// of the name and eight times its mark. Parts: the name. Only symbols of the wide grammar have it.
+/// A special name that is about a name, except that of a guard variable. Numbers: the last letter of its code, and the number of the name's
+/// qualifiers plus eight times the name's mark. Parts: the name. Only symbols of the wide grammar have it.
 pub const OF_NAME: u16 = 64;
 
 /// The virtual table of a base class while an object of a class derived from it is constructed. Texts: the digits of the base
@@ -222,7 +222,7 @@ pub const SIZED_FLOAT: u16 = 67;
 /// Only symbols of the wide grammar have it.
 pub const TAGGED: u16 = 68;
 
-/// A conversion to a type, in no scope. Parts: the type. Only symbols of the wide grammar have it, and the next two.
+/// A conversion to a type, in no scope. Parts: the type. Only symbols of the wide grammar have this production and the next two.
 pub const CONVERSION: u16 = 69;
 
 /// As `CONVERSION`, in std.
@@ -235,12 +235,12 @@ pub const NESTED_CONVERSION: u16 = 71;
 /// encoding. Only symbols of the wide grammar have it.
 pub const CLONE: u16 = 72;
 
-/// The entity of a local name that is in a default argument. Texts: the digits that say in which. Parts: the entity. Only
+/// The entity of a local name that is in a default argument. Texts: the digits that say in which default argument. Parts: the entity. Only
 /// symbols of the wide grammar have it.
 pub const OF_DEFAULT: u16 = 73;
 
-/// A lambda whose signature names parameters of its own, in no scope, otherwise as `LAMBDA`. Only symbols of the wide grammar
-/// have it, and the next two.
+/// A lambda whose signature names parameters of its own, in no scope, otherwise as `LAMBDA`. Only symbols of the wide grammar have this
+/// production and the next two.
 pub const GENERIC_LAMBDA: u16 = 74;
 
 /// As `GENERIC_LAMBDA`, in std.
@@ -252,12 +252,12 @@ pub const NESTED_GENERIC_LAMBDA: u16 = 76;
 /// An array whose length is a parameter. Parts: the parameter and the type of its elements.
 pub const BOUNDED: u16 = 77;
 
-/// A placeholder type constrained by a concept. Numbers: the last letter of its code, k of `auto` and K of `decltype(auto)`.
-/// Parts: the concept. Only symbols of the wide grammar have it.
+/// A placeholder type constrained by a concept. Numbers: the last letter of its code, k for `auto` and K for `decltype(auto)`. Parts: the
+/// concept. Only symbols of the wide grammar have it.
 pub const CONSTRAINED: u16 = 78;
 
-/// A constructor that is inherited, in no scope. Numbers: its digit, as a letter. Parts: the base class that it is inherited
-/// from. Only symbols of the wide grammar have it, and the next two.
+/// A constructor that is inherited, in no scope. Numbers: its digit, as a letter. Parts: the base class that it is inherited from. Only
+/// symbols of the wide grammar have this production and the next two.
 pub const INHERITING: u16 = 79;
 
 /// As `INHERITING`, in std.
@@ -266,7 +266,7 @@ pub const STD_INHERITING: u16 = 80;
 /// As `INHERITING`, in a prefix: its base class is the second part.
 pub const NESTED_INHERITING: u16 = 81;
 
-/// The type of an expression. Parts: the expression. Only symbols of the wide grammar have it, and the next two.
+/// The type of an expression. Parts: the expression. Only symbols of the wide grammar have this production and the next two.
 pub const DECLTYPE: u16 = 82;
 
 /// An operation of an expression. Numbers: the two letters of its operator. Parts: its operands; a missing one is absent, and
@@ -276,8 +276,8 @@ pub const OPERATION: u16 = 83;
 /// A parameter of the function whose types it occurs in, as an expression. Texts: the digits of its number.
 pub const FUNCTION_PARAMETER: u16 = 84;
 
-/// An enumeration without a name, in no scope. Texts: its first enumerator. Parts: its underlying type. Only symbols of the wide
-/// grammar have it, and the next two.
+/// An enumeration without a name, in no scope. Texts: its first enumerator. Parts: its underlying type. Only symbols of the wide grammar
+/// have this production and the next two.
 pub const ENUMERATION: u16 = 85;
 
 /// As `ENUMERATION`, in std.
@@ -286,7 +286,7 @@ pub const STD_ENUMERATION: u16 = 86;
 /// As `ENUMERATION`, in a prefix: its type is the second part.
 pub const NESTED_ENUMERATION: u16 = 87;
 
-/// A structured binding, in no scope. Parts: the list of its names. Only symbols of the wide grammar have it, and the next two.
+/// A structured binding, in no scope. Parts: the list of its names. Only symbols of the wide grammar have this production and the next two.
 pub const BINDINGS: u16 = 88;
 
 /// As `BINDINGS`, in std.

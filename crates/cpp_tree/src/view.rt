@@ -171,7 +171,7 @@ fn named(production: u16, numbers: [u64; 2], text: Span, prefix: Option<u32>) ->
     }
 }
 
-/// The number of the properties of a function's type, except its mark.
+/// The number that records the properties of a function's type, except its mark.
 fn linkage_number(c_linkage: bool, noexcept: bool) -> u64
     ensures { result ≡ linkage_number c_linkage noexcept }
 {
@@ -243,7 +243,7 @@ fn view_of_name(
     }
 }
 
-/// The view of a special name of a name, by the last letter of its code.
+/// The view of a special name that is about a name, by the last letter of its code.
 #[tactic(auto, unfolding(crate::specs::Fields::named_fields))]
 fn view_of_special_name(
     symbol: &[u8],
@@ -531,7 +531,7 @@ pub fn offsets_of(symbol: &[u8], nodes: &Nodes, node: node::Node) -> Option<Thun
     }
 }
 
-/// Likewise for a node that isn't an alias.
+/// The offsets of a node that isn't an alias, if the node is a thunk.
 #[tactic(auto, unfolding(crate::specs::Fields::offsets_of, cpp_term::specs::Erased::erase, crate::specs::Nodes::tree_of, crate::specs::Nodes::is_again))]
 fn own_offsets_of(symbol: &[u8], nodes: &Nodes, node: node::Node) -> Option<Thunk>
     requires table { IsTable (over symbol.now nodes.now) }

@@ -1,4 +1,5 @@
-// What is noted of a node by what is noted of its parts: what another argument changes of it, and what its two words record.
+// What is noted of a node, derived from what is noted of its parts: what another argument changes in its tree, and what its two words
+// record.
 #![tactic(auto)]
 
 ghost use Rattle.std.specs.Prelude.{◌≡◌, ℕ, Bool, Some, Option, false, not};
@@ -11,7 +12,7 @@ ghost use Rattle.cpp_tree.specs.Notes.{itself, passed, joined, of_cell, of_head,
 use crate::compact::TypeHead;
 use crate::node::{ByArgument, HeadFrom, Node};
 
-/// What another argument changes of a tree with one part: its packs.
+/// What another argument changes in a tree with one part: its packs.
 #[inline(always)]
 #[tactic(auto, unfolding(crate::specs::Notes::passed))]
 pub(crate) fn passed(part: ByArgument) -> ByArgument
@@ -25,7 +26,7 @@ pub(crate) fn passed(part: ByArgument) -> ByArgument
     }
 }
 
-/// What another argument changes of a tree with two parts.
+/// What another argument changes in a tree with two parts.
 #[inline(always)]
 #[tactic(auto, unfolding(crate::specs::Notes::joined))]
 pub(crate) fn joined(one: ByArgument, other: ByArgument) -> ByArgument
@@ -39,7 +40,7 @@ pub(crate) fn joined(one: ByArgument, other: ByArgument) -> ByArgument
     }
 }
 
-/// What another argument changes of a cell of a list.
+/// What another argument changes in a cell of a list.
 #[inline(always)]
 pub(crate) fn of_cell(one: ByArgument, other: ByArgument) -> ByArgument
     ensures { result ≡ of_cell one other }
@@ -52,7 +53,7 @@ pub(crate) fn of_cell(one: ByArgument, other: ByArgument) -> ByArgument
     }
 }
 
-/// What another argument changes of a type that has its head from a part.
+/// What another argument changes in a type that has its head from a part.
 #[inline(always)]
 pub(crate) fn of_head(head: HeadFrom, part: ByArgument) -> ByArgument
     ensures { result ≡ of_head head part }
@@ -65,7 +66,7 @@ pub(crate) fn of_head(head: HeadFrom, part: ByArgument) -> ByArgument
     }
 }
 
-/// Where the head of a reference to an rvalue of a type is from.
+/// Where the head of an rvalue reference to a type comes from.
 #[inline(always)]
 #[tactic(auto, unfolding(crate::specs::Notes::collapses_from))]
 pub(crate) fn collapsed_from(head: HeadFrom) -> HeadFrom
@@ -77,7 +78,7 @@ pub(crate) fn collapsed_from(head: HeadFrom) -> HeadFrom
     }
 }
 
-/// What two words record of a reference to an rvalue of a type.
+/// What two words record of an rvalue reference to a type.
 #[inline(always)]
 #[tactic(auto, unfolding(crate::specs::Compact::class_kept, crate::specs::Compact::arguments_kept, crate::specs::Compact::untagged_kept, crate::specs::Compact::returns_kept, crate::specs::Compact::count_kept, crate::specs::Compact::run_kept, crate::specs::Compact::has_pack_kept, crate::specs::Notes::collapses))]
 pub(crate) fn collapsed(words: TypeHead) -> TypeHead
@@ -91,7 +92,7 @@ pub(crate) fn collapsed(words: TypeHead) -> TypeHead
     }
 }
 
-/// What two words record of a type with the head of a type.
+/// What two words record of a type that has the head of another type.
 #[inline(always)]
 #[tactic(auto, unfolding(crate::specs::Compact::class_kept, crate::specs::Compact::arguments_kept, crate::specs::Compact::untagged_kept, crate::specs::Compact::returns_kept, crate::specs::Compact::count_kept, crate::specs::Compact::run_kept, crate::specs::Compact::has_pack_kept))]
 pub(crate) fn of_type(words: TypeHead) -> TypeHead
@@ -107,7 +108,7 @@ pub(crate) fn of_type(words: TypeHead) -> TypeHead
     }
 }
 
-/// What two words record of a name that ends in a name.
+/// What two words record of a name that ends in another name.
 #[inline(always)]
 #[tactic(auto, unfolding(crate::specs::Compact::class_kept, crate::specs::Compact::arguments_kept, crate::specs::Compact::untagged_kept, crate::specs::Compact::returns_kept, crate::specs::Compact::count_kept, crate::specs::Compact::run_kept, crate::specs::Compact::has_pack_kept))]
 pub(crate) fn of_name(words: TypeHead) -> TypeHead

@@ -15,7 +15,7 @@ map-more f words i none within =
     let now : Bor (List ℕ) → List ℕ = λ word. word.now in
     ap (map f) (words-more words i none within) ∙ map-append f (map now (take i words)) ((get_or words i none).now ∷ [])
 
--- likewise for a list to which each word adds one entry
+-- a function's results for the first words and for one more word, in a list to which each word adds one entry
 pub pushed-more : {A : Type 0} (bytes : A → List ℕ) (f : List ℕ → List ℕ) (old new : List A) (x : A) (words : List (Bor (List ℕ))) (i : ℕ) (none : Bor (List ℕ)) → new ≡ old ++ x ∷ []
     → map bytes old ≡ map f (map (λ (word : Bor (List ℕ)). word.now) (take i words)) → bytes x ≡ f (get_or words i none).now → i < length words
     → map bytes new ≡ map f (map (λ (word : Bor (List ℕ)). word.now) (take (i + 1) words))

@@ -93,14 +93,15 @@ pub record TellsInput (answers : Answering) (why : Bool) (coming coming' out out
   pub counts : tally ≡ tally_at Within answers text
   pub says : Appends err err' (reasons_if why answers text)
 
--- What was written, and what was said, are beginnings of the filtered text and of the reasons for the bytes that were read.
+-- What was written is a beginning of the filtered text of the bytes that were read, and what was said is a beginning of the
+-- reasons for these bytes.
 pub record TellsInputFront (answers : Answering) (why : Bool) (coming coming' out out' err err' : Option (List ℕ)) : Type 0 where
   pub text : List ℕ
   pub reads : Consumes coming coming' text
   pub writes : PutsFront out out' [] (filtered_at Within answers text)
   pub says : PutsFront err err' [] (reasons_if why answers text)
 
--- An input was filtered to its end, and then it was said how many symbols stay, if that is requested.
+-- An input was filtered to its end, and then the number of symbols that stay was written, if that is requested.
 pub record FiltersInput (answers : Answering) (why strict : Bool) (coming coming' out out' err err' : Option (List ℕ)) (status : ℕ) : Type 0 where
   pub tally : Tally
   pub before : Option (List ℕ)
@@ -108,8 +109,8 @@ pub record FiltersInput (answers : Answering) (why strict : Bool) (coming coming
   pub says : Appends before err' (summary_if why tally)
   pub ends : status ≡ status_of strict (not (tally.refused == 0))
 
--- Before a fault, a part of an input was filtered, and reasons were said for some of the words that stay; or the whole input
--- was filtered, and a beginning of the summary was written, which says how many symbols stay.
+-- Before a fault, a part of an input was filtered, and reasons were said for some of the words that stay. Or the whole input
+-- was filtered, and a beginning of the summary, which says how many symbols stay, was written.
 abbrev pub FiltersInputFront : Answering → (why : Bool) → (coming coming' out out' err err' : Option (List ℕ)) → Type 0
 FiltersInputFront answers why coming coming' out out' err err' =
     TellsInputFront answers why coming coming' out out' err err'
@@ -200,7 +201,7 @@ IsEndedOf rows terminal status lines said = Answered rows terminal status lines 
 abbrev pub IsStoppedOf : List Row → (terminal : Bool) → List ℕ → List ℕ → Type 0
 IsStoppedOf rows terminal lines said = AnsweredFront rows terminal lines said ⊎ (lines ≡ [])
 
--- what a command line did that may also filter the input, or write objects
+-- what a command line did, if it may also filter the input or write objects
 abbrev pub EndsOf : List Row → (terminal : Bool) → (coming coming' out out' err err' : Option (List ℕ)) → ℕ → Type 0
 EndsOf rows terminal coming coming' out out' err err' status =
     ((coming' ≡ coming) × Took out out' err err' (IsEndedOf rows terminal status)) ⊎ Filtered rows terminal coming coming' out out' err err' status

@@ -22,7 +22,8 @@ pub record Decoding : Type 0 where
 abbrev pub first_taken : Decoding → ℕ → Decoding
 first_taken decoding byte = if nat_lt byte 128 then record decoding { bytes = decoding.bytes ++ byte ∷ [] } else record decoding { lead = Some byte }
 
--- of a character's number, from 128 to 255, the first byte has the two highest bits, and the second byte has the others
+-- the first byte of a character from 128 to 255 has the two highest bits of the character's number, and the second byte
+-- has the others
 abbrev pub second_taken : ℕ → Decoding → ℕ → Decoding
 second_taken lead decoding byte = record { bytes = decoding.bytes ++ (lead % 4 * 64 + byte % 64) ∷ []; lead = None }
 
@@ -42,7 +43,7 @@ after_text decoding (byte ∷ bytes) = after_text (after_byte decoding byte) byt
 abbrev pub start : Decoding
 start = record { bytes = []; lead = None }
 
--- for each character of a text, the byte with the character's number; of the text of a word these bytes are the word
+-- for each character of a text, the byte with the character's number; for the text of a word, these bytes are the word
 abbrev pub bytes_of : Text → List ℕ
 bytes_of text = (after_text start text).bytes
 

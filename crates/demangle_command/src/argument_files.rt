@@ -18,7 +18,8 @@ pub struct Reading {
     escapes: bool,
 }
 
-/// The words of a file. Blanks separate them, but not within `'..'` or `".."`. A backslash takes the byte after it as it is, also within quotes.
+/// The words of a file. Blanks separate them, but not within `'..'` or `".."`. After a backslash the next byte is taken as it is, also
+/// within quotes.
 pub fn words_in(alloc: Global, text: &[u8]) -> Result<Vec<Vec<u8>>, AllocError>
     ensures { IfOk result (λ words. words_of words ≡ words_in text.now) }
 {

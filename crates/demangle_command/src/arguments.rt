@@ -59,7 +59,7 @@ pub enum Words {
     TooLong(Vec<u8>),
 }
 
-/// What is read of a file of arguments: nothing, if it can't be read; that it is too long; or its words.
+/// What is read of a file of arguments: nothing if the file can't be read, that it is too long, or its words.
 #[derive(Drop)]
 enum FileWords {
     None,

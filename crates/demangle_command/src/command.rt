@@ -28,7 +28,7 @@ use sym_filter::{
 use sym_languages::{Languages, Wide};
 use sym_recent::{Alike, Recent};
 use sym_short::{Gnu, Rewriting, Shortening, Texts};
-use text_colours::Colored;
+use text_colours::Coloring;
 use text_details::Detailed;
 
 /// Runs the program over an input and two outputs: writes the line of each name with its symbols replaced, or filters the input, if there
@@ -37,7 +37,7 @@ use text_details::Detailed;
 ///
 /// # Errors
 ///
-/// `Read` and `Write` where a stream failed, `Memory`. The bytes written are a beginning of those that a run without faults writes.
+/// `Read` and `Write` where a stream failed, and `Memory`. The bytes written are a beginning of those that a run without faults writes.
 pub fn run_over<S: Source, W: Sink, E: Sink>(
     alloc: Global,
     words: &[&[u8]],
@@ -171,7 +171,10 @@ fn run_found<S: Source, W: Sink, E: Sink>(
     };
     let styled = styled_of(options);
     if shows_colors(options) {
-        let colored = Colored { demangler: styled };
+        let colored = Rewriting {
+            demangler: styled,
+            rewrite: Coloring { known: styled },
+        };
         return run_lines(alloc, colored, options, matches, terminal, input, out, err);
     }
     match options.texts {
@@ -179,8 +182,10 @@ fn run_found<S: Source, W: Sink, E: Sink>(
         Texts::Short { keeps_inline } => {
             let short = Rewriting {
                 demangler: styled,
-                rewrite: Shortening { keeps_inline },
-                reads_paths: options.style.reads_paths(),
+                rewrite: Shortening {
+                    keeps_inline,
+                    reads_paths: options.style.reads_paths(),
+                },
             };
             run_spelled(alloc, short, options, matches, terminal, input, out, err)
         }
@@ -222,7 +227,7 @@ fn is_gnu(spelling: Spelling) -> bool
     }
 }
 
-/// Does what the command line's parser found, with a demangler that follows all its options but those for spellings and escapes.
+/// Does what the command line's parser found, with a demangler that follows all options except those for spellings and escapes.
 fn run_spelled<D: Alike + Detailed + Copy + Drop, S: Source, W: Sink, E: Sink>(
     alloc: Global,
     demangler: D,
@@ -255,8 +260,9 @@ fn run_spelled<D: Alike + Detailed + Copy + Drop, S: Source, W: Sink, E: Sink>(
         Spelling::Gnu => {
             let spelled = Rewriting {
                 demangler,
-                rewrite: Gnu,
-                reads_paths: options.style.reads_paths(),
+                rewrite: Gnu {
+                    reads_paths: options.style.reads_paths(),
+                },
             };
             run_with(alloc, spelled, options, matches, terminal, input, out, err)
         }
@@ -283,7 +289,7 @@ fn styled_of(options: Options) -> Styled
     Styled { style, languages }
 }
 
-/// Does what the command line's parser found, with a demangler that follows all its options but the one for escapes.
+/// Does what the command line's parser found, with a demangler that follows all options except the one for escapes.
 fn run_with<D: Alike + Detailed + Copy + Drop, S: Source, W: Sink, E: Sink>(
     alloc: Global,
     demangler: D,
@@ -317,7 +323,8 @@ fn run_with<D: Alike + Detailed + Copy + Drop, S: Source, W: Sink, E: Sink>(
     )
 }
 
-/// Does what the command line's parser found, if objects aren't requested, with a demangler that follows all its options but the one for escapes.
+/// Does what the command line's parser found, if objects aren't requested, with a demangler that follows all options except the one for
+/// escapes.
 fn run_lines<D: Alike + Copy + Drop, S: Source, W: Sink, E: Sink>(
     alloc: Global,
     demangler: D,
@@ -343,9 +350,11 @@ fn run_lines<D: Alike + Copy + Drop, S: Source, W: Sink, E: Sink>(
         ≡ W.failure_count out.old + E.failure_count err.old + writer_faults result }
 {
     let texts = names_of(matches);
-    let escaping = Escaping {
+    let escaping = Rewriting {
         demangler,
-        escapes: options.escape,
+        rewrite: Escaping {
+            escapes: options.escape,
+        },
     };
     if texts.is_empty() {
         let recent = Recent {

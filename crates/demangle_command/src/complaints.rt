@@ -17,7 +17,8 @@ const LIMIT_TAKES: &[u8] = b"--limit takes a number from 0 to 4294967295";
 
 const VALUES: &[u8] = b"--limit, --format and --spelling take a value";
 
-/// Says why the parser doesn't accept words, the program's name first, by the kind of its error.
+/// Says why the parser doesn't accept words, the first of which is the program's name, by the kind
+/// of the parser's error.
 pub(crate) fn complaint(
     alloc: Global,
     kind: ErrorKind,
@@ -108,7 +109,7 @@ fn quoted(alloc: Global, words: &[u8], text: &str) -> Result<Vec<u8>, AllocError
     Ok(all)
 }
 
-/// The first word that the parser, given this word alone, refuses with the kind of error that it has for all words.
+/// The first word that the parser, given the word alone, refuses with the same kind of error as all words together.
 fn first_refused<'a>(alloc: Global, kind: ErrorKind, words: &[&'a str]) -> Refused<'a> {
     let mut before = "";
     for word in words {

@@ -46,7 +46,7 @@ Examples:
   perf script --no-demangle | demangle --no-params --brief
   demangle _ZN3foo3barEi";
 
-/// The options and names that the words of a command line have, the program's name first.
+/// The options and names in the words of a command line; the first word is the program's name.
 pub(crate) fn found_in<'a>(alloc: Global, words: &'a [&'a str]) -> Result<ArgMatches<'a>, Error>
     ensures found { IfOk result (λ matches. rows_of (found_of matches) ≡ matches_of command_line (map (λ word. word.now) words.entry.now)) }
     ensures fails { FailsBy (fault_of command_line (map (λ word. word.now) words.entry.now)) result }
@@ -215,7 +215,7 @@ fn taken_option<'a>(alloc: Global) -> Arg<'a>
     flag(alloc, "no-strip-underscore").short('n').hide(true)
 }
 
-/// The argument for names, of which there may be any number.
+/// The argument for any number of names.
 fn name_arguments<'a>(alloc: Global) -> Arg<'a>
     ensures rule { rule_of result ≡ name_arguments }
     ensures local { result.global ≡ false }

@@ -15,7 +15,7 @@ use sym_recent::Alike;
 use symbol_parts::{Parsed, Parser};
 use text_details::{Detailed, Details};
 
-/// The answer to a symbol that a style leaves out. For the style the symbol is malformed at its first byte.
+/// The answer to a symbol that a style leaves out: the style takes the symbol as malformed at its first byte.
 const LEFT_OUT: Refusal = Refusal::Malformed { at: 0 };
 
 /// Both manglings, with C++ by the wide grammar and legacy Rust names as paths. A style may leave symbols out.

@@ -120,7 +120,7 @@ module _ (answers : Answering) (types why : Bool) where
         stay = chosen ∙ ap₂ (λ (a b : Bool). a || b) so_far.stay is ∙ one-more (list_any stays names) (stays name) ∙ sym (ap (list_any stays) e ∙ list_any-append stays names (name ∷ []));
       }
 
-  -- a part of one more name
+  -- the lines of some names were written, and after them a part of the line of one more name
   pub SoFar-stopped : (names rest all : List (List ℕ)) (name : List ℕ) (one_stays : Bool) (out mid out' err mid' err' : Option (List ℕ)) → SoFar answers types why names one_stays out mid err mid' → all ≡ names ++ name ∷ rest
       → Took mid out' mid' err' (NameFront answers types why name) → Took out out' err err' (NamesFront answers types why all)
   SoFar-stopped names rest all name one_stays out mid out' err mid' err' so_far e front =

@@ -64,7 +64,7 @@ stays_for types answers name = stays_by_type (type_for types answers name) answe
 abbrev pub said_for : (types why : Bool) → Answering → List ℕ → List ℕ
 said_for types why answers name = said_if (why && stays_for types answers name) answers name
 
--- Names are answered one by one. For each name that stays a line says why, where that is requested.
+-- Names are answered one by one. If reasons are requested, a line says for each name that stays why it does.
 pub record AnswersNames (answers : Answering) (types why : Bool) (names : List (List ℕ)) (one_stays : Bool) (lines said : List ℕ) : Type 0 where
   pub are_lines : lines ≡ flat_map (written_for types answers) names
   pub is_said : said ≡ flat_map (said_for types why answers) names

@@ -119,7 +119,7 @@ untold-word saying line said said' word bytes is h = PutsFront-same said said' [
 pub untold-none : (saying : Saying) (line : ℕ) (said : Option (List ℕ)) (entries : List Entry) → Untold saying line said said entries
 untold-none saying line said entries = PutsFront-none said [] (said_from saying line entries)
 
--- a fact of the fault, and a consequence of what holds on failure
+-- a fact about the fault, and a consequence of what holds on failure
 pub err-both : {T E : Type 0} (r : Result T E) (P : E → Type 0) (Q R : Type 0) → (Q → R) → IfErr r P → OnErr r Q → IfErr r (λ e. P e × R)
 err-both (Ok x) P Q R f h i = tt
 err-both (Err e) P Q R f h i = (h, f i)

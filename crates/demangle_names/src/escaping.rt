@@ -21,7 +21,7 @@ pub fn push_escaped(text: &[u8], out: &mut Vec<u8>) -> Result<(), AllocError>
     Ok(())
 }
 
-/// Appends a byte as a string of JSON has it. Where memory runs out, perhaps only a beginning of these bytes is appended.
+/// Appends a byte as a string of JSON has it. Where memory runs out, perhaps only a beginning of the escaped byte is appended.
 fn push_byte(byte: u8, out: &mut Vec<u8>) -> Result<(), AllocError>
     ensures pushed { OnOk result (out.new.items ≡ out.old.items ++ escaped_byte byte) }
     ensures front { OnErr result ((front : List ℕ) × (out.new.items ≡ out.old.items ++ front)) }
@@ -38,7 +38,7 @@ pub fn escaped_reads_back()
     ensures { ReadsBack }
 {}
 
-/// An escaped text ends no string, and its last backslash doesn't escape the byte after it.
+/// An escaped text ends no string, and doesn't escape the byte after the text.
 pub fn escaped_stays_within()
     ensures { StaysWithin }
 {}

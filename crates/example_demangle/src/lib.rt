@@ -16,7 +16,7 @@ pub fn text(alloc: Global, symbol: &[u8]) -> Result<Vec<u8>, Refusal>
     demangle(alloc, symbol, 1_000_000)
 }
 
-/// A line for each symbol, its brief text or the symbol itself, with the same lists for all.
+/// A line for each symbol: its brief text, or the symbol itself. The same lists serve all symbols.
 pub fn lines(alloc: Global, symbols: &[&[u8]]) -> Result<Vec<u8>, Refusal> {
     let mut workspace = Workspace::new(alloc);
     let mut lines = Vec::new(alloc);

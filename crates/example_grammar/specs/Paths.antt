@@ -13,7 +13,7 @@ blank = record { choices = []; may_be_empty = false; after = []; rank = 0; heigh
 abbrev pub types : List ByteRange
 types = range 66 67 ∷ range 73 73 ∷ range 82 82 ∷ range 104 104 ∷ []
 
--- what follows a type in a list: another, or E
+-- what follows a type in a list: another type, or E
 abbrev pub listed : List ByteRange
 listed = range 69 69 ∷ types
 

@@ -219,7 +219,7 @@ static SYMBOLS: [[Sym; 5]; 11] = [
     START, WHOLE, CRATE, GENERIC, LETTER, REFERENCE, ARRAY, NAMED, LAST, MORE, LIFETIME,
 ];
 
-/// How many symbols follow each of them, up to an end.
+/// How many symbols follow each symbol, up to an end.
 static AFTER: [u8; 55] = [
     0, 0, 0, 0, 2, 1, 0, 0, 0, 1, 0, 0, 0, 0, 2, 1, 0, 0, 0, 0, 0, 0, 0, 0, 2, 1, 0, 0, 0, 3, 2, 1,
     0, 0, 1, 0, 0, 0, 0, 0, 0, 0, 0, 0, 2, 1, 0, 0, 0, 1, 0, 0, 0, 0, 0,

@@ -33,7 +33,7 @@ fn feed(reader: &mut Reader<Paths>, piece: &[u8]) -> Result<(), Refusal> {
     Err(Refusal::TooLong)
 }
 
-/// What a reader answers, fed a first piece and then the rest in pieces of a size.
+/// The answer of a reader that is fed a first piece and then the rest in pieces of a size.
 fn fed(alloc: Global, first: &[u8], rest: &[u8], size: usize) -> Result<Shape, Refusal> {
     let mut reader = Reader::new(alloc, &Paths)?;
     if !first.is_empty() {

@@ -72,7 +72,7 @@ pub rank-falls : (i : Seen) → RanksBelow rank (rank i) (parts_of i)
 rank-falls (seen (leaf byte) side) = tt
 rank-falls (seen (pair left right) side) = (omega arith, (omega arith, tt))
 
--- the code's parts of a leaf, and of a pair, print what the unshared item does
+-- the code's parts of a leaf, and those of a pair, print what the unshared item prints
 module _ (nodes : List Node) (i : Item Bool) (d : Node) (linked : IsLinked 0 nodes) (here : i.node < length nodes) (parts : List (Part Bool)) where
   prints : (tree : Tree) → at (trees_of nodes) i.node ≡ tree → AreParts (item_of nodes) bytes_of parts (parts_of (seen tree i.ctx))
       → printed parts_of rank (item_of nodes i) ≡ joined (λ j. printed parts_of rank (item_of nodes j)) bytes_of parts

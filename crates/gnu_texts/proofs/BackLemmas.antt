@@ -1,4 +1,4 @@
--- A spelled text without the blanks before its brackets is the text again.
+-- A spelled text without the blanks before its brackets is the text that was spelled.
 use Rattle.gnu_texts.proofs.Basics.{◌≡◌, ◌≤◌, ◌<◌, ◌+◌, ◌-◌, ◌==◌, ◌⊎◌, inl, inr, ℕ, zero, suc, Bool, true, false, not, ◌&&◌, ◌||◌, if◌then◌else◌, List, [], ◌∷◌, ◌++◌, length, take, drop, nat_eq, codes, refl, sym, ap, ap₂, ◌∙◌, arith, true≢false, take-append-drop, take-append-add, take-append_seam, pointwise, starts_with, list_all, is_letter, Piece, HasNoWords, HasNoBlanks, ComesBack, closed_up, bytes_of, is_spaced, last_of, operator_size, piece_at, sign_size, size_of, spelled}
 use Rattle.gnu_texts.proofs.FrontLemmas.{front-is}
 use Rattle.gnu_texts.proofs.KeptLemmas.{at-byte}

@@ -7,7 +7,7 @@ use Rattle.gnu_texts.proofs.OrderLemmas.{AreIn, in-ahead, in-both, in-filter, in
 use Rattle.gnu_texts.proofs.PieceLemmas.{and-left, and-right, by-piece, choose, sized, suffix-some}
 use Rattle.gnu_texts.proofs.SpelledLemmas.{drop-less}
 
--- two parts of a text, each in what is written for it
+-- two parts of a text are in what is written for both, if each part is in what is written for it
 parts-in : (front rest written more : List ℕ) → AreIn (without_parentheses front) written → AreIn (without_parentheses rest) more → AreIn (without_parentheses (front ++ rest)) (written ++ more)
 parts-in front rest written more is also =
     subst (λ t. AreIn t (written ++ more)) (sym (filter-append (λ byte. not (byte == 40 || byte == 41)) front rest))

@@ -1,4 +1,4 @@
--- What a spelled text keeps of a text without names that are written otherwise, and without a suffix.
+-- What a spelled text keeps of a text that has no suffix and none of the names that are written differently.
 use Rattle.gnu_texts.proofs.Basics.{◌≡◌, ◌<◌, ◌-◌, ◌==◌, ℕ, zero, suc, Bool, true, false, not, ◌&&◌, ◌||◌, List, [], ◌∷◌, ◌++◌, take, drop, nat_eq, codes, refl, sym, ap, ap₂, ◌∙◌, arith, true≢false, eqb-true, take-append-drop, filter-append, starts_with, Piece, AddsBlanks, HasNo, HasNoPlaces, HasNoWords, PartsBrackets, Stays, without_blanks, bytes_of, is_spaced, last_of, operator_size, piece_at, size_of, spelled}
 use Rattle.gnu_texts.proofs.FrontLemmas.{no-operator}
 use Rattle.gnu_texts.proofs.PieceLemmas.{by-few, words-tail}

@@ -5,7 +5,8 @@ use Rattle.gnu_texts.proofs.Basics.{eq-eqb, filter, are_in}
 abbrev pub AreIn : (bytes text : List ℕ) → Type 0
 AreIn bytes text = are_in bytes text ≡ true
 
--- a subsequence of a text is one of the text after one more byte, if subsequences of the text stay such without their first byte
+-- a subsequence of a text is also one of the text preceded by one more byte, if each subsequence of the text stays one without
+-- its first byte
 more-by : (text : List ℕ) → ((first : ℕ) (bytes : List ℕ) → AreIn (first ∷ bytes) text → AreIn bytes text) → (bytes : List ℕ) (byte : ℕ) → AreIn bytes text → AreIn bytes (byte ∷ text)
 unfolding are_in
 more-by text less [] byte is = refl
@@ -29,7 +30,7 @@ in-less (byte ∷ text) first bytes is = by (first == byte) is (in-less text)
 pub in-more : (bytes : List ℕ) (byte : ℕ) (text : List ℕ) → AreIn bytes text → AreIn bytes (byte ∷ text)
 in-more bytes byte text is = more-by text (in-less text) bytes byte is
 
--- a subsequence of a text is one of the text after more bytes
+-- a subsequence of a text is also one of the text preceded by more bytes
 in-behind : (front bytes text : List ℕ) → AreIn bytes text → AreIn bytes (front ++ text)
 in-behind [] bytes text is = is
 in-behind (byte ∷ front) bytes text is = in-more bytes byte (front ++ text) (in-behind front bytes text is)
@@ -47,7 +48,7 @@ in-both (byte ∷ text) (first ∷ bytes) more rest is also = by (first == byte)
     by true e again = again bytes e
     by false e again = again (first ∷ bytes) e
 
--- a subsequence of a text is one of the text before more bytes
+-- a subsequence of a text is also one of the text followed by more bytes
 pub in-ahead : (bytes text rest : List ℕ) → AreIn bytes text → AreIn bytes (text ++ rest)
 unfolding are_in
 in-ahead bytes text rest is = subst (λ t. AreIn t (text ++ rest)) (append-nil bytes) (in-both text bytes [] rest is refl)

@@ -1,4 +1,4 @@
--- What a text has where it begins with a piece.
+-- What holds of a text that begins with a piece.
 use Rattle.gnu_texts.proofs.Basics.{◌≡◌, ◌≤◌, ◌<◌, ◌+◌, ◌*◌, ◌-◌, ◌==◌, ◌⊎◌, ℕ, zero, suc, Bool, true, false, not, ◌&&◌, ◌||◌, if◌then◌else◌, Option, None, Some, List, [], ◌∷◌, ◌++◌, length, take, drop, get_or, nat_eq, codes, refl, sym, ap, ◌∙◌, arith, length-drop, length-append, length-take, inl, inr, lit≤, true≢false, starts_with, ends_with, is_letter, Name, Piece, begins_part, clones, is_suffix, letter_bytes, parted, suffix_of, HasNoNames, HasNoWords, begins_whole, member_bytes, member_front, member_size, name_at, name_of, named, written_of, bytes_of, is_spaced, name_piece, operator_size, piece_at, plain_piece, sign_size, size_of}
 use Rattle.gnu_texts.specs.declared.names.Name.TheVariants as names
 use Rattle.gnu_texts.specs.declared.piece.Piece.TheVariants as pieces
@@ -103,7 +103,8 @@ suffix-starts : (text : List ℕ) → is_suffix text ≡ true → starts_with na
 unfolding is_suffix
 suffix-starts text h = and-left _ _ (and-left _ _ h)
 
--- in such a text a piece is one of three: an operator's name, a bracket with a blank before it, or a byte
+-- in a text for which `HasNoWords` holds, a piece is one of three: an operator's name, a bracket with a blank before
+-- it, or a byte
 pub by-few : (P : Piece → Type 0) (last : ℕ) (text : List ℕ) → HasNoWords text → (0 < operator_size last text → P (pieces.Operator (operator_size last text)))
     → (is_spaced last text ≡ true → P pieces.Spaced) → (is_spaced last text ≡ false → P pieces.Byte) → P (piece_at last text)
 by-few P last text none operator spaced byte =

@@ -1,7 +1,7 @@
 -- Texts that are spelled piece after piece.
 use Rattle.gnu_texts.proofs.Basics.{◌≡◌, ◌≤◌, ◌<◌, ◌+◌, ◌-◌, ℕ, zero, suc, List, [], ◌∷◌, ◌++◌, length, drop, refl, sym, ap, ap₂, ◌∙◌, arith, append_assoc, length-drop, drop-drop, drop_all, append-nil, piece_at, size_of, bytes_of, last_of, spelled}
 
--- bytes that are passed over
+-- bytes that are passed over spell nothing
 pub spelled-skipped : (last k : ℕ) (text : List ℕ) → spelled last k text ≡ spelled last 0 (drop k text)
 unfolding spelled
 spelled-skipped last zero text = refl
@@ -24,7 +24,7 @@ spelled-piece last (byte ∷ text) some more =
     (spelled-skipped (last_of piece (byte ∷ text)) (size_of piece (byte ∷ text) - 1) text
     ∙ ap (λ t. spelled (last_of piece (byte ∷ text)) 0 t) (drop-less (size_of piece (byte ∷ text)) byte text more))
 
--- what was written so far, and one more piece
+-- after one more piece, what is written and the spelling of the rest still make the whole text
 pub piece-more : (text : List ℕ) (at last : ℕ) (old so_far new : List ℕ) (size next : ℕ) → at < length text
     → so_far ++ spelled last 0 (drop at text) ≡ old
     → 0 < size → size ≡ size_of (piece_at last (drop at text)) (drop at text) → next ≡ last_of (piece_at last (drop at text)) (drop at text)

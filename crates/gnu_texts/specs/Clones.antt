@@ -19,7 +19,7 @@ begins_part text = starts_with nat_eq text (codes ".") && not (is_between 48 57 
 abbrev pub letter_bytes : List ℕ → List ℕ
 letter_bytes text = if begins_part text then codes "] [clone ." else take 1 text
 
--- what is written for the bytes after a suffix's first
+-- what is written for the bytes after a suffix's first byte
 unfoldable pub parted : List ℕ → List ℕ
 parted [] = []
 parted (byte ∷ text) = letter_bytes (byte ∷ text) ++ parted text

@@ -18,7 +18,7 @@ pub record HasNoNames (text : List ℕ) : Type 0 where
   pub string : HasNo (codes "std::string") text
   pub null_pointer : HasNo (codes "std::nullptr_t") text
 
--- A text has none of these names, and no ` (.`, with which a suffix begins.
+-- A text has none of the names that are written otherwise, and no ` (.`, with which a suffix begins.
 pub record HasNoWords (text : List ℕ) : Type 0 where
   pub names : HasNoNames text
   pub suffix : HasNo (codes " (.") text
@@ -52,7 +52,8 @@ dots count = codes " (" ++ replicate count 46 ++ codes ")"
 abbrev pub ReachesBound : (count : ℕ) → Type 0
 ReachesBound count = 0 < count → length (gnu_text (dots count)) + 30 ≡ 10 * length (dots count)
 
--- A text without those names and without a suffix, unless it is empty, becomes less than twice as long.
+-- A text without names that are written otherwise and without a suffix becomes less than twice as long, unless it is
+-- empty.
 abbrev pub IsLessThanDouble : List ℕ → Type 0
 IsLessThanDouble text = HasNoWords text → 0 < length text → length (gnu_text text) < 2 * length text
 
@@ -70,7 +71,8 @@ without_blanks text = filter (λ byte. not (byte == 32)) text
 abbrev pub AddsBlanks : List ℕ → Type 0
 AddsBlanks text = HasNoWords text → without_blanks (gnu_text text) ≡ without_blanks text
 
--- If the text has no operators' names either, its spelled text has no two `>` side by side and no `[` right after a `)`.
+-- If a text has no suffix, no operators' names and no names that are written otherwise, its spelled text has no two `>`
+-- side by side and no `[` right after a `)`.
 abbrev pub PartsBrackets : List ℕ → Type 0
 PartsBrackets text = HasNoWords text → HasNo (codes "operator") text → HasNo (codes ">>") (gnu_text text) × HasNo (codes ")[") (gnu_text text)
 
@@ -79,8 +81,8 @@ unfoldable pub closed_up : (last : ℕ) → List ℕ → List ℕ
 closed_up last [] = []
 closed_up last (byte ∷ text) = elim (byte == 32 && is_spaced last text) [ true ↦ closed_up last text | false ↦ byte ∷ closed_up byte text ]
 
--- A text without those names, without a suffix and without blanks before brackets comes back once the blanks before brackets
--- are left out of its spelled text. So no two such texts are spelled alike.
+-- A text without names that are written otherwise, without a suffix and without blanks before brackets is its spelled text
+-- without the blanks before brackets. So no two such texts are spelled alike.
 abbrev pub ComesBack : List ℕ → Type 0
 ComesBack text = HasNoWords text → HasNoBlanks text → closed_up 0 (gnu_text text) ≡ text
 

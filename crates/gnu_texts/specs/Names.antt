@@ -1,4 +1,5 @@
--- The names of `std` that GNU's demangler writes otherwise: abbreviations of the ABI (5.1.10) as the templates that they are for.
+-- The names of `std` that GNU's demangler writes differently: it writes abbreviations of the ABI (5.1.10) as the templates
+-- that they abbreviate.
 use Rattle.std.specs.Prelude.{ℕ, List, [], ◌++◌, ◌+◌, Bool, not, ◌==◌, ◌||◌, ◌&&◌, nat_eq, length, take, drop, get_or, codes, Option, None, Some, if◌then◌else◌}
 use Rattle.std.specs.List.{starts_with}
 use Rattle.short_names.specs.Runs.{is_letter}
@@ -30,7 +31,7 @@ unfoldable pub end_of : Name → ℕ
 end_of names.NullPointer = 41
 end_of _ = 62
 
--- the name that is written otherwise with which a text begins, after `std::`
+-- the name with which a text begins, after `std::`, if GNU's demangler writes this name differently
 unfoldable pub named : List ℕ → Option Name
 named text =
     if begins_whole text (codes "string") then Some names.String
@@ -39,12 +40,13 @@ named text =
     else (if begins_whole text (codes "iostream") then Some names.Iostream
     else (if begins_whole text (codes "nullptr_t") then Some names.NullPointer else None))))
 
--- the name with which a text begins, if the byte before it, `last`, is of no name
+-- the name with which a text begins, if the byte `last` before the text belongs to no name
 unfoldable pub name_at : (last : ℕ) → List ℕ → Option Name
 name_at last text =
     if starts_with nat_eq text (codes "std::") && not (is_letter last || last == 58) then named (drop 5 text) else None
 
--- how many bytes come before the name of a constructor or destructor of the name's class, if a text begins with these; else 0
+-- how many bytes come before the name of a constructor or destructor of the name's class, if a text begins with these bytes
+-- and that name; else 0
 unfoldable pub member_front : Name → List ℕ → ℕ
 member_front name text =
     if starts_with nat_eq text (codes "::~") && begins_whole (drop 3 text) (name_of name) then 3

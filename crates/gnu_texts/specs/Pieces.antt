@@ -8,20 +8,21 @@ use Rattle.gnu_texts.specs.Clones.{is_suffix, suffix_of, clones}
 use Rattle.short_names.specs.Runs.{is_letter}
 use Rattle.gnu_texts.specs.Names.{end_of, name_at, name_of, written_of, member_front, member_bytes, member_size}
 
--- how many bytes of an operator's sign a text begins with, if the sign has a byte that looks like a bracket
+-- the length of the operator's sign that a text begins with, if the sign has a byte that looks like a bracket
 unfoldable pub sign_size : List ℕ → ℕ
 sign_size text =
     if starts_with nat_eq text (codes "<=>") then 3
     else (if starts_with nat_eq text (codes "->") || starts_with nat_eq text (codes ">>") || starts_with nat_eq text (codes "()") then 2
     else (if starts_with nat_eq text (codes ">") then 1 else 0))
 
--- how many bytes of the word `operator` and of such a sign a text begins with; 0 where the byte before is a letter
+-- how many bytes the word `operator` and a sign that `sign_size` counts take at the front of a text; 0 if the byte
+-- before the text is a letter
 unfoldable pub operator_size : (last : ℕ) → List ℕ → ℕ
 operator_size last text =
     if is_letter last || not (starts_with nat_eq text (codes "operator")) || sign_size (drop 8 text) == 0 then 0 else 8 + sign_size (drop 8 text)
 
--- a text begins with a bracket before which a blank is written: the second of two that close lists, or one that opens an array after another
--- that closes
+-- a text begins with a bracket before which a blank is written: the second of two brackets that close lists, or one that opens an array
+-- after a closing bracket
 unfoldable pub is_spaced : (last : ℕ) → List ℕ → Bool
 is_spaced last text = (last == 62 && starts_with nat_eq text (codes ">")) || (last == 41 && starts_with nat_eq text (codes "["))
 
@@ -49,7 +50,7 @@ IsPiece pieces.Suffix text = 3 ≤ length text
 IsPiece pieces.Spaced text = 0 < length text
 IsPiece pieces.Byte text = 0 < length text
 
--- how many bytes of the text a piece is
+-- how many bytes of the text a piece takes
 unfoldable pub size_of : Piece → List ℕ → ℕ
 size_of (pieces.Operator size) text = size
 size_of (pieces.Named name front) text = 5 + length (name_of name) + member_size name front

@@ -30,7 +30,7 @@ pub(crate) fn is_suffix(text: &[u8]) -> bool
     text.starts_with(b" (.") && text.ends_with(b")") && are_letters(&text[2..text.len() - 1])
 }
 
-/// Whether a part of a suffix begins at a place of it: at a dot that no digit follows.
+/// Whether a text begins with a part of a suffix: with a dot that no digit follows.
 #[tactic(auto, unfolding(crate::specs::Clones::begins_part))]
 fn begins_part(text: &[u8]) -> bool
     ensures { result ≡ begins_part text.now }

@@ -71,7 +71,8 @@ fn begins_whole(text: &[u8], name: &[u8]) -> bool
     !is_letter(text[name.len()])
 }
 
-/// The name that is written otherwise with which a text begins, after `std::`.
+/// The name at the front of a text that follows `std::`, if GNU's demangler writes this name
+/// otherwise.
 #[tactic(auto, unfolding(crate::specs::Names::named, crate::specs::Names::name_of))]
 fn named(text: &[u8]) -> Option<Name>
     ensures name { result ≡ named text.now }
@@ -92,7 +93,7 @@ fn named(text: &[u8]) -> Option<Name>
     }
 }
 
-/// The name with which a text begins; none where the byte before it is of a name.
+/// The name with which a text begins; none if the byte before the text belongs to a name.
 #[tactic(auto, unfolding(crate::specs::Names::name_at))]
 pub(crate) fn name_at(last: u8, text: &[u8]) -> Option<Name>
     ensures name { result ≡ name_at last text.now }
@@ -105,8 +106,8 @@ pub(crate) fn name_at(last: u8, text: &[u8]) -> Option<Name>
     }
 }
 
-/// How many bytes come before the name of a constructor or destructor of the name's class, if a
-/// text begins with these; else 0.
+/// 2 if a text begins with `::` and the name, as before a constructor; 3 if it begins with `::~`
+/// and the name, as before a destructor; else 0.
 #[tactic(auto, unfolding(crate::specs::Names::member_front))]
 pub(crate) fn member_front(name: Name, text: &[u8]) -> usize
     ensures front { result ≡ member_front name text.now }

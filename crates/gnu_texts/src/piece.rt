@@ -13,7 +13,7 @@ use std::alloc::AllocError;
 pub(crate) enum Piece {
     /// An operator's name with a sign that isn't a bracket.
     Operator { size: usize },
-    /// A name that is written otherwise, and the number of bytes between it and its constructor's or destructor's name, or 0.
+    /// A name that is written differently, and the number of bytes between it and its constructor's or destructor's name, or 0.
     Named { name: Name, front: usize },
     /// A suffix.
     Suffix,
@@ -23,7 +23,7 @@ pub(crate) enum Piece {
     Byte,
 }
 
-/// How many bytes of an operator's sign a text begins with, if the sign has a byte that looks like a bracket.
+/// The length of the operator's sign that a text begins with, if the sign has a byte that looks like a bracket.
 #[tactic(auto, unfolding(crate::specs::Pieces::sign_size))]
 fn sign_size(text: &[u8]) -> usize
     ensures size { result ≡ sign_size text.now }
@@ -41,7 +41,8 @@ fn sign_size(text: &[u8]) -> usize
     }
 }
 
-/// How many bytes of the word `operator` and of such a sign a text begins with, or 0.
+/// How many bytes the word `operator` and a sign that `sign_size` counts take at the front of a
+/// text, or 0.
 #[tactic(auto, unfolding(crate::specs::Pieces::operator_size))]
 fn operator_size(last: u8, text: &[u8]) -> usize
     ensures size { result ≡ operator_size last text.now }

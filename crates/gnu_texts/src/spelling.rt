@@ -9,7 +9,7 @@ use std::alloc::AllocError;
 ///
 /// # Errors
 ///
-/// Where the list can't grow.
+/// `AllocError` if the list can't grow.
 pub fn append_spelled(text: &[u8], out: &mut Vec<u8>) -> Result<(), AllocError>
     ensures { OnOk result (out.new.items ≡ out.old.items ++ gnu_text text.now) }
 {

@@ -9,7 +9,7 @@ use Rattle.cpp_link.specs.LinkRescoping.{wide_counted}
 abbrev pub node_count : Linked → ℕ
 node_count linked = length linked.nodes.nodes
 
--- the nodes that are there before the first row: the absent tree, the empty list, the empty pack and the type auto
+-- the nodes that exist before the first row: the absent tree, the empty list, the empty pack and the type auto
 abbrev pub first_nodes : ℕ
 first_nodes = 4
 

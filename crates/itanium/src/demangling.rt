@@ -38,11 +38,11 @@ pub fn read(alloc: Global, s: &[u8]) -> Result<Symbol, Refusal>
     sym_demangle::read::<Abi>(alloc, s)
 }
 
-/// Reads the symbol that a reader was fed up to its end. Its bytes aren't copied.
+/// Reads the symbol that a reader was fed up to the symbol's end. The symbol's bytes aren't copied.
 ///
 /// # Errors
 ///
-/// Those of `read`, for the bytes fed.
+/// The errors of `read`, for the bytes fed.
 pub fn read_fed(alloc: Global, reader: Reader<Abi>) -> Result<Symbol, Refusal>
     requires { reader.ended ≡ true }
     ensures bytes { IfOk result (λ symbol. symbol.bytes ≡ reader.bytes) }
@@ -61,7 +61,7 @@ pub fn read_fed(alloc: Global, reader: Reader<Abi>) -> Result<Symbol, Refusal>
 ///
 /// # Errors
 ///
-/// Those of `read`, and `TooLong` exactly where the text costs more.
+/// The errors of `read`, and `TooLong` exactly where the text costs more.
 pub fn demangle(alloc: Global, s: &[u8], limit: u32) -> Result<Vec<u8>, Refusal>
     requires { FitsSymbol s.now }
     ensures text { IfOk result (λ text. IsAnswer Detail.Full s.now limit (Ok text.items)) }
@@ -74,7 +74,7 @@ pub fn demangle(alloc: Global, s: &[u8], limit: u32) -> Result<Vec<u8>, Refusal>
 ///
 /// # Errors
 ///
-/// Those of `read`, and `TooLong` exactly where the text costs more.
+/// The errors of `read`, and `TooLong` exactly where the text costs more.
 pub fn demangle_as(alloc: Global, s: &[u8], limit: u32, detail: Detail) -> Result<Vec<u8>, Refusal>
     requires { FitsSymbol s.now }
     ensures text { IfOk result (λ text. IsAnswer detail s.now limit (Ok text.items)) }

@@ -11,12 +11,12 @@ use crate::writer::Writer;
 use cpp_direct::{Grammar, Shown, Step, are_name_bytes};
 use sym_print::Detail;
 
-/// The longest symbol that is written this way, in bytes. The lists take at most some 95 bytes for each byte of the symbol, so a
-/// thread keeps 6 MB. Words of the filter aren't longer.
+/// The longest symbol that is written this way, in bytes. The lists take at most some 95 bytes for each byte of the symbol, so a thread
+/// keeps 6 MB. Words of the filter are no longer than this.
 const LONGEST: usize = 65_536;
 
 /// The most bytes of text that are written for each byte of a symbol, and the bytes that may be written in addition. The text of an
-/// instance is up to twenty times as long as a symbol with many substitutions, and its name is written twice.
+/// instance is up to twenty times as long as a symbol with many substitutions, and the instance's name is written twice.
 const BYTES_A_BYTE: usize = 32;
 
 const BYTES_ANYWAY: usize = 1_024;
@@ -25,15 +25,16 @@ const BYTES_ANYWAY: usize = 1_024;
 /// components of a nested name, each turn of the loop reads a byte of its own.
 const ROUNDS_A_BYTE: usize = 8;
 
-/// Writes the text of a symbol, by the wide grammar or by the default and in the requested detail, if the short way reads the symbol and
-/// the text costs at most a limit. Answers whether the text was written. Where it wasn't, nothing is known of the symbol.
+/// Writes the text of a symbol in the requested detail, by the wide grammar or the default one, if the short way reads the symbol and the
+/// text costs at most a limit. Answers whether the text was written. If it wasn't, nothing is known of the symbol.
 ///
-/// Whatever is answered, at most 32 bytes for each of the symbol's bytes and a kilobyte are written, at most eight steps for each byte are
-/// taken, and no list has more entries than the symbol has bytes, since no list has room for more. Text and candidates only grow until a
-/// function ends. At its end three things are removed: what was written of an instance of a function template up to its return type; the
-/// return type of a function whose address is an argument, or that contains a type; and what was written after the name of a function that is
-/// shown only by its name. Arguments that aren't shown are written, too, and are left out at the end.
-// This is inlined at each call, which knows the detail and mostly the grammar, so that it has no steps for other details and grammars.
+/// Whatever is answered, at most 32 bytes for each of the symbol's bytes and a kilobyte are written, and at most eight steps for each byte
+/// are taken. No list has room for more entries than the symbol has bytes. Text and candidates only grow until a function ends. At its end
+/// three things are removed: what was written of an instance of a function template up to its return type; the return type of a function
+/// whose address is an argument, or that contains a type; and what was written after the name of a function that is shown only by its name.
+/// Arguments that aren't shown are written, too, and are left out at the end.
+// This is inlined at each call, which knows the detail and mostly the grammar, so the inlined code has no steps for other details and
+// grammars.
 #[inline(always)]
 pub fn write(writer: &mut Writer, s: &[u8], limit: u32, is_wide: bool, detail: Detail) -> bool
     requires { FitsSymbol s.now }

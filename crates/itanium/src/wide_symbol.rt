@@ -55,7 +55,7 @@ impl WideSymbol {
         &self.symbol
     }
 
-    /// The lists of a symbol that is given up: its bytes, and its nodes. It takes no memory.
+    /// The lists of a symbol that is given up: its bytes, and its nodes. The call takes no memory.
     pub(crate) fn into_lists(self) -> (Vec<u8>, Nodes) {
         let WideSymbol { symbol } = self;
         symbol.into_lists()
@@ -73,7 +73,7 @@ impl WideSymbol {
     ///
     /// # Errors
     ///
-    /// `TooLong` exactly where it costs more, `Memory` where a list couldn't grow.
+    /// `TooLong` exactly where the text costs more, `Memory` where a list couldn't grow.
     pub fn text(&self, limit: u32) -> Result<Vec<u8>, Refusal>
         ensures text { IfOk result (λ text. text.items ≡ text_of (shown_symbol Detail.Full self.now)) }
         ensures within { OnOk result (cost_of (shown_symbol Detail.Full self.now) ≤ limit) }
@@ -87,7 +87,7 @@ impl WideSymbol {
     ///
     /// # Errors
     ///
-    /// `TooLong` exactly where it costs more, `Memory` where a list couldn't grow.
+    /// `TooLong` exactly where the text costs more, `Memory` where a list couldn't grow.
     pub fn text_as(&self, limit: u32, detail: Detail) -> Result<Vec<u8>, Refusal>
         ensures text { IfOk result (λ text. text.items ≡ text_of (shown_symbol detail self.now)) }
         ensures within { OnOk result (cost_of (shown_symbol detail self.now) ≤ limit) }
@@ -120,11 +120,11 @@ impl WideSymbol {
         self.symbol.root_node()
     }
 
-    /// The view of a node, which is below `counts().nodes`. It takes no memory.
+    /// The view of a node, which is below `counts().nodes`. The call takes no memory.
     ///
-    /// The node's tree, where a parameter is only its number, is its production over these numbers, the bytes of these texts
-    /// and the trees of its parts, and for `WIDE_THUNK` over its offsets. Two nodes have equal trees exactly where these are
-    /// equal.
+    /// In the node's tree, a parameter is only its number. The tree is the node's production over these numbers, the bytes of these texts
+    /// and the trees of the parts, and for `WIDE_THUNK` over the offsets. Two nodes have equal trees exactly where they agree in all of
+    /// these.
     pub fn node(&self, node: u32) -> Node
         requires { node < length self.now.table.nodes }
         ensures fields { IsView self.now.bytes result (fields_at (table_of self.now) node) }
@@ -135,8 +135,8 @@ impl WideSymbol {
         self.symbol.node(node)
     }
 
-    /// A part of a node, counted from 0: an earlier node. The node is below `counts().nodes`, and the part below its
-    /// view's `parts`. It takes no memory.
+    /// A part of a node, counted from 0: an earlier node. The node is below `counts().nodes`, and the part below its view's `parts`. The
+    /// call takes no memory.
     pub fn part(&self, node: u32, k: u32) -> u32
         requires node { node < length self.now.table.nodes }
         requires part { k < length (fields_at (table_of self.now) node).parts }
@@ -147,7 +147,7 @@ impl WideSymbol {
     }
 
     /// The offsets by which a node adjusts pointers, where it is a thunk: all four that a thunk may have. The node is below
-    /// `counts().nodes`. It takes no memory.
+    /// `counts().nodes`. The call takes no memory.
     pub fn call_offsets(&self, node: u32) -> Option<Thunk>
         requires { node < length self.now.table.nodes }
         ensures offsets { offsets_in self.now.bytes result ≡ offsets_of (plain_tree (table_of self.now) node) }
@@ -156,7 +156,8 @@ impl WideSymbol {
         self.symbol.call_offsets(node)
     }
 
-    /// The bytes of a span within the symbol, as each text of a node's view is. It takes no memory.
+    /// The bytes of a span within the symbol; each text of a node's view is such a span. The call
+    /// takes no memory.
     pub fn bytes_of(&self, span: Span) -> &[u8]
         requires { IsWithin span self.now.bytes }
         ensures { result.now ≡ bytes_at self.now.bytes span }

@@ -1,4 +1,4 @@
-// What writes symbols, and counts its steps.
+// The writer of symbols, which counts its steps.
 
 ghost use Rattle.std.specs.Prelude.{◌≡◌, ◌≤◌, ◌+◌, ◌*◌, ◌%◌, ◌^◌, [], length};
 ghost use Rattle.std.specs.Option.{IfSome, OnSome};
@@ -15,8 +15,8 @@ use std::alloc::Global;
 #[derive(Drop)]
 pub struct Writer {
     lists: Direct,
-    /// The steps for all symbols, modulo 2^64. This number is apart from the lists, so that no step can change it, and no proof has to say
-    /// of each move that it stays.
+    /// The steps for all symbols, modulo 2^64. This number is kept apart from the lists, so that no step can change it, and no proof has to
+    /// show of each move that the number stays.
     rounds: u64,
 }
 
@@ -85,7 +85,7 @@ impl Writer {
         self.lists.take::<G>(s, step)
     }
 
-    /// Removes what isn't to be shown from what was written. A text that can't be distinguished from one with marks in it is given up.
+    /// Removes what isn't to be shown from what was written. A text that can't be distinguished from a text with marks is given up.
     #[inline(always)]
     pub(crate) fn show<G: Grammar>(&mut self, s: &[u8]) -> Option<()>
         requires { IsWhole (symbol_by G.IS_WIDE G.IS_BARE G.IS_BRIEF s.now) self.old.lists.text.list.items }

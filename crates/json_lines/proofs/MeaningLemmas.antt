@@ -1,4 +1,4 @@
--- What a name means as a symbol, by what was answered for the symbol.
+-- What a name means as a symbol, given the answer for the symbol.
 use Rattle.json_lines.proofs.Basics.{◌≡◌, ◌∙◌, ℕ, Bool, List, Option, None, Some, Result, Ok, Err, refl, true, false, is_some, not, sym, ap, ap₂, option_and_then, if◌then◌else◌, Refusal, kind_of, symbol_of, Answering, text_for, trimmed, Mangling, Details, Detailing, mangling_of, no_symbol, answered, meaning_by, named_by, stays, symbol_meaning}
 use Rattle.std.specs.Result.{result_ok}
 use Rattle.sym_filter.specs.declared.kinds.Kind.{Kind}

@@ -57,7 +57,7 @@ meaning_in meanings.NoSymbol = no_symbol
 
 -- ## Names in a text
 
--- The name that a word of a text is: the word without the dots and the bytes that aren't ASCII at its end, if that has a text; otherwise
--- the whole word.
+-- The name that a word of a text is: the word without the dots and non-ASCII bytes at its end, if what is left has a text; otherwise the
+-- whole word.
 unfoldable pub named_by : Answering → List ℕ → List ℕ
 named_by answers word = if is_some (text_for answers (trimmed word)) then trimmed word else word

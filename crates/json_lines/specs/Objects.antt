@@ -104,7 +104,8 @@ name_lines types reads_paths answers details names = flat_map (name_line types r
 abbrev pub names_stay : (types reads_paths : Bool) → Answering → Detailing → List (List ℕ) → Bool
 names_stay types reads_paths answers details names = list_any (name_stays types reads_paths answers details) names
 
--- What is said of a word of a text: a line with the object of the name that the word is, with the number of the word's line in the text.
+-- What is said of a word of a text: a line with the object of the name that the word is. The object has the number of the word's line in
+-- the text.
 abbrev pub objects_of : (reads_paths : Bool) → Answering → Detailing → Saying
 objects_of reads_paths answers details = record {
   says = λ line word. json_line (object_of (Some line) (named_by answers word) (symbol_meaning reads_paths answers details (named_by answers word)));

@@ -7,7 +7,7 @@ ghost use Rattle.json_lines.specs.Tokens.{code_escape};
 use demangle_names::push_escaped;
 use std::alloc::AllocError;
 
-/// Appends the string of a text. Where memory runs out, perhaps only a beginning of the string is appended.
+/// Appends the string of a text. If memory runs out, only a beginning of the string may have been appended.
 pub(crate) fn push_string(text: &[u8], out: &mut Vec<u8>) -> Result<(), AllocError>
     ensures { OnOk result (out.new.items ≡ out.old.items ++ quoted text.now) }
 {

@@ -37,8 +37,8 @@ impl<'r, D: Detailed> Says for Objects<'r, D> {
     }
 }
 
-/// The name that a word of a text is: the word without the dots and the bytes that aren't ASCII at its end, if that has a text; otherwise
-/// the whole word.
+/// The name in a word of a text: the word without the dots and the bytes that aren't ASCII at its end, if what is left has a text;
+/// otherwise the whole word.
 fn named_by<'w, D: Detailed>(
     alloc: Global,
     demangler: &D,
@@ -82,11 +82,11 @@ fn trimmed_end(word: &[u8]) -> usize
 }
 
 /// Reads a text to its end, and writes the line of each word that names a symbol, as soon as the word has ended. Answers whether any of
-/// these words has no text. It holds no more of the text than one read and one word.
+/// these words has no text. Holds no more of the text than one read and one word.
 ///
 /// # Errors
 ///
-/// `Read` and `Write` where a stream failed, `Memory`. What was written is a beginning of these lines.
+/// `Read` and `Write` where a stream failed, and `Memory`. What was written is a beginning of these lines.
 pub fn tell_objects<D: Detailed, S: Source, W: Sink>(
     alloc: Global,
     demangler: &D,

@@ -25,7 +25,7 @@ use Rattle.legacy_laws.proofs.Bytes.{end_here, front_here, legacy_drop, name_her
 
 -- ## Reading
 
--- a nested name goes on after one more name
+-- a nested name continues after one more name
 one_name : (s : Symbol) (kind : Kind) (outer : List Opened) (around : Around) (t : Term) (at : ℕ) (st : State) (name : List ℕ) (end : ℕ)
     → IsRest kind → NestGoesOn s kind outer around t false at st → IsNameAt s.bytes at name end
     → NestGoesOn s Kind.NestTail outer around (within t (source false name)) false end (with_candidate around t st)
@@ -110,7 +110,7 @@ names_cond : (b : Bool) (names : List (List ℕ)) → cond {A = Option (List (Li
 names_cond true names is = sym (ap (λ o. unwrap_or o names) is)
 names_cond false names is = absurd (cc (is))
 
--- there are more names than names before the hash
+-- there are more names than those before the hash
 hash_more : (all names : List (List ℕ)) → before_hash all ≡ Some names → length names + 1 ≤ length all
 hash_more [] names is = absurd (cc (is))
 hash_more (name ∷ []) names is = omega (arith, ap length (names_cond (is_hash name) names is))

@@ -1,4 +1,4 @@
--- The text of a path without its marks is what the path shows; and how long its parts are.
+-- The text of a path, which is what the path shows once its marks are removed; and the lengths of its parts.
 use Rattle.legacy_parts.proofs.Basics.{◌≡◌, ℕ, List, [], ◌∷◌, ◌++◌, length, refl, sym, ap, ◌∙◌, arith, append_assoc, append-nil, length-append, codes, Unshared, text_of, Path, names_parts, shown_path, suffix_parts, names_text-next, Marked, done, text, marked, ◌before◌, plain, alone, only, suffixed, text_of-before, Role, place_of, before_last, last_of, names_marked, path_marked, root_role, shown}
 use Rattle.sym_parts.specs.Marked as marks
 use Rattle.sym_parts.specs.declared.spelling.Ordinal.{Ordinal}
@@ -40,7 +40,7 @@ text-base : (b : List ℕ) → marks.text_of (alone role.Base only b done) ≡ b
 unfolding marks.text_of
 text-base b = text-alone role.Base only b done ∙ append-nil b
 
--- names except for the last one, and then that one after two colons
+-- names except for the last one, and then the last one after two colons
 pub text-before_last : (name : List ℕ) (rest : List (List ℕ))
     → marks.text_of (before_last (name ∷ rest)) ++ (codes "::" ++ shown (last_of (name ∷ rest))) ≡ text_of (names_parts (codes "::") (name ∷ rest))
 unfolding marks.text_of before_last

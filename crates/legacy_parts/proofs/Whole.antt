@@ -8,7 +8,7 @@ use Rattle.legacy_parts.proofs.Texts.{front-length, front_of, names-split}
 
 -- ## The first name
 
--- of two texts, the second not beginning with <: both together begin with < if the first does
+-- if the second of two texts doesn't begin with <, both together begin with < exactly if the first one does
 begins-before : (one other : List ℕ) → begins_with (codes "<") other ≡ false → begins_with (codes "<") (one ++ other) ≡ begins_with (codes "<") one
 begins-before [] other none = none
 begins-before (x ∷ one) other none = refl
@@ -50,7 +50,7 @@ last-in (name ∷ rest) suffix some =
 
 -- ## Lengths
 
--- two colons precede the last name, if anything does
+-- two colons precede the last name, unless nothing precedes it
 pub after-colons : (names : List (List ℕ)) → (place_of names ≡ 0) ⊎ (2 ≤ place_of names)
 after-colons [] = inl refl
 after-colons (name ∷ []) = inl refl

@@ -42,6 +42,6 @@ parts_by root found =
     if nat_eq found.place 0 then base ∷ []
     else record { role = role.Scope; ordinal = only; start = 0; length = found.place - 2 } ∷ record { role = root; ordinal = only; start = 0; length = found.first } ∷ base ∷ []
 
--- the part of a suffix of this many bytes after a place, with a blank and a bracket between
+-- the part for a suffix of `count` bytes; a blank and a bracket come between the place and this part
 unfoldable pub suffix_part : (place count : ℕ) → List Stretch
 suffix_part place count = if nat_eq count 0 then [] else record { role = role.Suffix; ordinal = only; start = place + 2; length = count } ∷ []

@@ -1,4 +1,4 @@
--- What is found of a legacy Rust name: its text, what it is, and the parts of the text.
+-- What is found for a legacy Rust name: its text, what it is, and the parts of the text.
 use Rattle.std.specs.Prelude.{◌≡◌, ℕ, List, Ok, length}
 use Rattle.rust_legacy.specs.Path.{Path}
 use Rattle.rust_legacy.specs.Text.{shown_path}

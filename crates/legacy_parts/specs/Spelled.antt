@@ -28,9 +28,9 @@ bytes from to = record { from = from; to = to }
 abbrev pub spelled : Role → (from to : ℕ) → Spelled
 spelled r from to = record { role = r; span = bytes from to }
 
--- The parts of a path's text, by the places where its first name ends, its last name begins, the hash begins, the suffix begins and the
--- symbol ends: the first name is at the symbol's fourth byte, and between the hash and the suffix is an E. A first name is a crate or an
--- implementation, by what it shows; a path of one name has no scope.
+-- The parts of a path's text, by five places: where the path's first name ends, its last name begins, the hash begins, the suffix begins
+-- and the symbol ends. The first name is at the symbol's fourth byte, and an E is between the hash and the suffix. A first name is a
+-- crate or an implementation, by what it shows; a path of one name has no scope.
 unfoldable pub spelling_by : (first last hash suffix end : ℕ) → Spelling
 spelling_by first last hash suffix end = record {
   others = bytes 3 hash;

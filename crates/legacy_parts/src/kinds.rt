@@ -17,7 +17,7 @@ fn is_closure(text: &[u8]) -> bool
     text.len() == 11 && text.starts_with(b"{{closure}}")
 }
 
-/// What a legacy name is, by its text. Its path is at a place that `path_of` found. It takes no memory.
+/// What a legacy name is, by its text. The name's path is at a place that `path_of` found. The call takes no memory.
 pub(crate) fn kind_of(symbol: &[u8], place: PathPlace, text: &[u8]) -> NameKind
     requires placed { IsPlaced symbol.now place }
     requires text { IsTextOf symbol.now text.now }

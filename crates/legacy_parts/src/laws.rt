@@ -17,8 +17,8 @@ pub fn marks_change_no_text()
     ensures { (path : Path) → marks.text_of (path_marked path) ≡ text_of (shown_path path) }
 {}
 
-/// The parts are slices of the text, in the order of their starts; of two parts one is within the
-/// other, or they are apart.
+/// The parts are slices of the text, in the order of their starts; any two of them are apart, or
+/// one is within the other.
 pub fn stretches_are_placed()
     ensures { (path : Path) → AreStretchesPlaced (length (text_of (shown_path path))) (stretches_of (path_marked path)) }
 {}

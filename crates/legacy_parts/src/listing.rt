@@ -1,4 +1,4 @@
-// The stretches of a legacy name's text that are parts of it.
+// The parts of a legacy name's text, as stretches of the text.
 #![tactic(auto)]
 
 ghost use Rattle.std.specs.Prelude.{◌≡◌, ◌+◌, ◌<◌, ◌≤◌, ◌⊎◌, ◌^◌, ◌++◌, ◌∷◌, [], Some, IfErr, IfOk, OnOk, List, codes, length, ℕ};
@@ -29,7 +29,7 @@ fn root_of(text: &[u8]) -> Role
     Role::Crate
 }
 
-/// Adds the part that the last name is.
+/// Adds the last name as a part.
 ///
 /// # Errors
 ///

@@ -1,4 +1,4 @@
-// The lengths of what the names of a path show.
+// The lengths of the texts that the names of a path show.
 #![tactic(auto)]
 
 ghost use Rattle.std.specs.Prelude.{◌≡◌, ◌<◌, ◌≤◌, ◌^◌, List, length, ℕ};
@@ -11,7 +11,7 @@ ghost use Rattle.legacy_parts.specs.Roles.{shown};
 use rust_legacy::path::name_at;
 use rust_legacy::text_length;
 
-/// How many bytes of text the first and the last of a path's names have, and how many bytes precede the last one's.
+/// How many bytes of text the first and the last of a path's names have, and how many bytes precede the text of the last one.
 #[derive(Clone, Copy)]
 pub(crate) struct Names {
     pub(crate) first: u32,

@@ -22,8 +22,8 @@ use sym_parts::{NameKind, Part, with_bytes};
 pub struct LegacyName {
     pub text: Vec<u8>,
     pub kind: NameKind,
-    /// In the order of their starts; of two parts one is within the other, or they are apart. The
-    /// hash, which isn't in the text, is last.
+    /// The parts, in the order of their starts; any two parts are apart, or one is within the
+    /// other. The hash, which isn't in the text, is last.
     pub parts: Vec<Part>,
 }
 

@@ -117,7 +117,8 @@ fn show_decoded(rt: &impl Print, alloc: Global, name: &[u8], puny: bool) -> io::
     }
 }
 
-/// Prints the decimal of a number in base 16, pushed twice, and the spans of both.
+/// Prints the decimal of a number in base 16, which is pushed twice, and the spans of both
+/// decimals.
 fn show_decimal(rt: &impl Print, alloc: Global, s: &[u8], minus: bool) -> io::Result<()>
     requires { FitsSymbol s.now }
 {

@@ -72,7 +72,7 @@ name-found s at place h le =
 pub there : (s : List ℕ) (at byte letter : ℕ) → byte ≡ letter → 0 < letter → (byte ≢ 0 → StandsAt s at (byte ∷ [])) → StandsAt s at (letter ∷ [])
 there s at byte letter is some stands = subst (λ b. StandsAt s at (b ∷ [])) is (stands (λ none. omega (arith, some, sym is ∙ none)))
 
--- a byte that was read at a place is there
+-- a byte that was read at a place is at this place
 pub read-there : (s : List ℕ) (at : ℕ) → at < length s → StandsAt s at (get_or s at 0 ∷ [])
 read-there s at less = front (drop at s) (get_or-drop at s 0 0 ∙ ap (λ n. get_or s n 0) (add-zero at)) (omega (arith, less, length-drop at s))
   where
@@ -80,7 +80,7 @@ read-there s at less = front (drop at s) (get_or-drop at s 0 0 ∙ ap (λ n. get
     front [] e some = absurd (omega (arith, some))
     front (x ∷ rest) e some = (rest, ap (λ y. y ∷ rest) e)
 
--- a byte that was read as a letter is that letter there
+-- a byte that was read as a letter at a place is that letter
 pub letter-there : (s : List ℕ) (at letter : ℕ) → at < length s → get_or s at 0 ≡ letter → StandsAt s at (letter ∷ [])
 letter-there s at letter less is = subst (λ b. StandsAt s at (b ∷ [])) is (read-there s at less)
 

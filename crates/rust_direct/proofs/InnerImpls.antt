@@ -9,7 +9,7 @@ use Rattle.rust_direct.proofs.Opened.{keeps-opened, stands-opened}
 use Rattle.rust_direct.proofs.PathsRead.{path-held}
 use Rattle.rust_direct.proofs.PrintedPaths.{impl-prints, trait-prints}
 
--- While nothing hidden is written yet, the hidden text may begin after any other text.
+-- As long as nothing hidden has been written, the hidden text may begin after any other text.
 unbegun-any : (brief : Bool) (s : List ℕ) (waiting : List Open) (os : List Opened) (text any parked : List ℕ) → IsUnbegun waiting → Stands brief s waiting os text parked
     → Stands brief s waiting os any parked
 unbegun-any brief s [] os text any parked is h = absurd is

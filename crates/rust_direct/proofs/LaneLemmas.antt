@@ -1,4 +1,4 @@
--- From the mask of sixteen bytes to the bytes at their front that pass a test, and runs of bytes that pass it.
+-- How the mask of sixteen bytes gives the bytes at their front that pass a test, and runs of bytes that pass it.
 use Rattle.rust_direct.proofs.Basics.{◌≡◌, ℕ, ◌+◌, ◌-◌, ◌%◌, ◌^◌, ◌<◌, ◌≤◌, ◌⊎◌, zero, suc, Bool, true, false, not, ◌||◌, List, [], ◌∷◌, map, length, take, drop, get_or, replicate, Fits, w8, refl, sym, ap, ap₂, ◌∙◌, subst, arith, inl, inr, agree_below, agree_below_at, not-true, cases_eq, eq-eqb, ne_eqb, cond-true, cond-false, map-map, mask_l-mod, length-chunk, get_or-chunk, leading_from_mask_l, trailing_mask_l, length-map, get_or-take, get_or-drop, prefix_len, first_set, EachPasses}
 use Rattle.std.proofs.lemmas.List.Sums.{prefix_len-le-length, prefix_len_passes}
 use lib.Lanes.{chunk, zip2, mask_l, top}
@@ -45,7 +45,7 @@ module _ (q : ℕ → Bool) (d : List ℕ) (i r : ℕ) (z : List ℕ) (room : i 
       subst (λ x. stops x ≡ false) (get_or-chunk i 16 d k 0 (omega (arith, front-within)))
       (not-true _ (prefix_len_passes (λ x. not (stops x)) (chunk i 16 d) k 0 (omega (arith, counted))))
 
-  -- each byte of the front, at which no lane stops, passes the test
+  -- each byte of the front passes the test, since no lane of the front stops
   pub front-passes : agree_below (λ x. stops x || q x) (λ _. true) 256 ≡ true → (r ≤ 16) × EachPasses q d i r
   front-passes all = (
     front-within,
@@ -71,11 +71,11 @@ pass-on q s from at to low high front rest k less =
     moved : (from at k : ℕ) → from ≤ at → at - from ≤ k → at + (k - (at - from)) ≡ from + k
     moved from at k low after = omega (arith, low, after)
 
--- likewise with sixteen more
+-- if the bytes up to `at` pass, and the sixteen bytes from there on pass, all of them pass
 pub lanes-on : (q : ℕ → Bool) (s : List ℕ) (from at : ℕ) → from ≤ at → EachPasses q s from (at - from) → EachPasses q s at 16 → EachPasses q s from (at + 16 - from)
 lanes-on q s from at low front lanes = pass-on q s from at (at + 16) low (omega arith) front (λ k less. lanes k (omega (arith, less)))
 
--- if sixteen bytes pass, the last of them pass
+-- if sixteen bytes pass, so does each stretch at their end
 pub last-pass : (q : ℕ → Bool) (s : List ℕ) (at to : ℕ) → at ≤ to → to - at ≤ 16 → 16 ≤ to → EachPasses q s (to - 16) 16 → EachPasses q s at (to - at)
 last-pass q s at to low few enough each k less =
     subst (λ n. q (get_or s n 0) ≡ true) (moved at to k low few enough) (each (k + 16 - (to - at)) (omega (arith, less, few)))

@@ -77,7 +77,7 @@ argument-opens s os at st expects =
     (moves.first-of rust_language s ARGUMENTS type_rule [] 0 os at st st (Kind TYPE) (Kind ARGUMENTS ∷ [])
     (record { context = 0; values = []; state = within Production.TypeArgument st }) takes-type (λ f. refl) refl refl expects (moves.stands-none s at))
 
--- a type is read among arguments, and they continue
+-- a type is read among arguments, and the arguments continue
 pub argument-goes-on : (s : List ℕ) (outer : List Opened) (place : ℕ) (p : tree.Path) (made : tree.Arguments → tree.Arguments) (here : ℕ) (now : State)
     (goes : ArgumentsGoOn s outer place p made here now) (place0 : ℕ) (before : State) (v : Value) (t : tree.Ty) (at : ℕ) (st : State)
     → IsType v t → Comes s (type_awaits place0 before goes.inner) v at st
@@ -119,7 +119,7 @@ no-digits s at stands = record {
   ends = refl;
 }
 
--- an erased lifetime is read among arguments, and they continue
+-- an erased lifetime is read among arguments, and the arguments continue
 pub lifetime-goes-on : (s : List ℕ) (outer : List Opened) (place : ℕ) (p : tree.Path) (made : tree.Arguments → tree.Arguments) (at : ℕ) (st : State)
     → ArgumentsGoOn s outer place p made at st → StandsAt s at (76 ∷ 95 ∷ [])
     → ArgumentsGoOn s outer place p (λ r. made (tree.lifetime_argument 0 r)) (at + 1 + 1) st
@@ -205,7 +205,7 @@ element-opens s os at st expects =
     (moves.first-of rust_language s TYPES more_rule [] 0 os at st st (Kind TYPE) (Kind TYPES ∷ [])
     (record { context = 0; values = []; state = within Production.TypesMore st }) takes-more (λ f. refl) refl refl expects (moves.stands-none s at))
 
--- a type of a tuple is read, and they continue
+-- a type of a tuple is read, and the tuple's types continue
 pub element-goes-on : (s : List ℕ) (outer : List Opened) (place : ℕ) (made : tree.Tys → tree.Tys) (here : ℕ) (now : State)
     (goes : TypesGoOn s outer place made here now) (place0 : ℕ) (before : State) (v : Value) (t : tree.Ty) (at : ℕ) (st : State)
     → IsType v t → Comes s (more_awaits place0 before goes.inner) v at st

@@ -72,7 +72,7 @@ bound-opens s os at st expects =
     (moves.first-of rust_language s BOUNDS more_rule [] 0 os at st st (Kind PATH) (Kind BINDINGS ∷ Kind BOUNDS ∷ [])
     (record { context = 0; values = []; state = within Production.BoundsMore st }) takes-more (λ f. refl) refl refl expects (moves.stands-none s at))
 
--- the path of a bound is read, and they continue
+-- the path of a bound is read, and the bounds continue
 pub bound-goes-on : (s : List ℕ) (outer : List Opened) (place : ℕ) (made : tree.Bounds → tree.Bounds) (here : ℕ) (now : State)
     (goes : BoundsGoOn s outer place made here now) (place0 : ℕ) (before : State) (p : tree.Path) (at : ℕ) (st : State)
     → Comes s (bound_awaits place0 before goes.inner) (a_path p) at st

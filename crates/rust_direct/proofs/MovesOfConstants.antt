@@ -221,7 +221,7 @@ constant_rule = taking Production.ConstantArgument (Kind CONSTANT ∷ Kind ARGUM
 takes-constant : TakesRule v0_table ARGUMENTS constant_rule (75 ∷ [])
 takes-constant = record { byte = 75; is_byte = omega arith; found = refl; takes = refl }
 
--- a constant is read among arguments, and they continue
+-- a constant is read among arguments, and the arguments continue
 pub constant-goes-on : (s : List ℕ) (outer : List Opened) (place : ℕ) (p : tree.Path) (made : tree.Arguments → tree.Arguments) (at : ℕ) (st : State)
     (c : tree.Constant) (end : ℕ) → ArgumentsGoOn s outer place p made at st → StandsAt s at (75 ∷ []) → IsConstantAt s (at + 1) c end
     → ArgumentsGoOn s outer place p (λ r. made (tree.constant_argument c r)) end (with_ended (at + 1) (a_constant c) st)

@@ -33,7 +33,7 @@ takes-byte b is = record { byte = b; is_byte = suffix-small b is; found = ap (λ
 takes-suffix : TakesRule v0_table SUFFIX suffix_rule (46 ∷ [])
 takes-suffix = record { byte = 46; is_byte = omega arith; found = refl; takes = refl }
 
--- the rest of a suffix comes, with or without a value
+-- the rest of a suffix is read, with or without a value
 abbrev RestComes : (s : List ℕ) → List Opened → (at : ℕ) → State → Type 0
 RestComes s os at st = (vs : List Value) × ComesAll s os vs at st
 

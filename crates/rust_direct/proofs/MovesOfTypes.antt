@@ -289,7 +289,7 @@ counted_rule = taking Production.Disambiguator (Number Base62 ∷ [])
 takes-counted : TakesRule v0_table DISAMBIGUATOR counted_rule (115 ∷ [])
 takes-counted = record { byte = 115; is_byte = omega arith; found = refl; takes = refl }
 
--- a disambiguator is read, or none
+-- an optional disambiguator is read
 disambiguator-comes : (s : List ℕ) (os : List Opened) (at : ℕ) (st : State) (count end : ℕ) → IsDisambiguatorAt s at count end
     → Expects s DISAMBIGUATOR os at st
     → ((count ≡ 0) × ComesAll s os [] end st) ⊎ Comes s os (a_disambiguator count) end (behind st)

@@ -104,7 +104,7 @@ own-there s at from size r within few apart each =
     first : get_or s from 0 ≡ get_or (take size (drop from s)) 0 0
     first = sym (piece-byte s from size 0 r.some ∙ ap (λ n. get_or s n 0) (add-zero from))
 
--- a byte other than a digit and '_' neither belongs to a length nor separates it from the name
+-- a byte other than a digit or '_' is neither part of a length nor a separator after one
 pub goes-apart : (b : ℕ) → is_decimal_digit b ≡ false → b ≢ 95 → goes_on b ≡ false
 goes-apart b digit mark = cc (digit, ne_eqb b 95 mark)
 

@@ -11,7 +11,7 @@ use Rattle.rust_direct.proofs.PrintedPaths.{crate-prints, nested-prints, nested-
 
 -- ## What is known of a path that was read
 
--- a path has a text in the forms that are named
+-- a value that is held in forms of a path is a path, and has a text in these forms
 pub path-held : (brief : Bool) (f : Forms) (v : Value) (bytes : List ℕ) → is_path f ≡ true → Holds brief f v bytes → (p : tree.Path) × (v ≡ a_path p) × PathHas brief f p bytes
 path-held brief forms.Alike v bytes is h = h
 path-held brief forms.Valued v bytes is h = h
@@ -33,7 +33,7 @@ form-held brief false forms.Typed v bytes is h = absurd (false≢true is)
 form-held brief true forms.Unnamed v bytes is h = absurd (false≢true is)
 form-held brief false forms.Unnamed v bytes is h = absurd (false≢true is)
 
--- a path that has a text in some forms is noted and forwarded with it
+-- a path that has a text in some forms is noted and forwarded with that text
 pub path-says : (brief : Bool) (f : Forms) (p : tree.Path) (bytes : List ℕ) → is_path f ≡ true → PathHas brief f p bytes → Says brief f (a_path p) bytes × Holds brief f (a_path p) bytes
 path-says brief forms.Alike p bytes is h = ((p, refl, h), (p, refl, h))
 path-says brief forms.Valued p bytes is h = ((p, refl, h), (p, refl, h))
@@ -195,7 +195,7 @@ unnamed-has brief forms.Plain letter p bytes count lower h room = unnamed-prints
 unnamed-has brief forms.Typed letter p bytes count lower h room = absurd h
 unnamed-has brief forms.Unnamed letter p bytes count lower h room = absurd h
 
--- forms in which a path has a text are those of a path
+-- forms in which a path has a text are forms of a path
 is-of-path : (brief : Bool) (f : Forms) (p : tree.Path) (bytes : List ℕ) → PathHas brief f p bytes → is_path f ≡ true
 is-of-path brief forms.Alike p bytes h = refl
 is-of-path brief forms.Valued p bytes h = refl

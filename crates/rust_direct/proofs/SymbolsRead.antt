@@ -11,7 +11,7 @@ use Rattle.rust_direct.proofs.PathsRead.{path-held, form-held, waits-too}
 
 -- ## Answers
 
--- the text of a symbol that was written with few enough bytes is its answer
+-- if a symbol was written with few enough bytes, its text is its answer
 pub shown-answer : (brief : Bool) (s text : List ℕ) (limit size : ℕ) → IsShown brief s size text → size ≤ limit / 4 → IsAnswer (detail_by brief) s limit (Ok text)
 shown-answer brief s text limit size shown short =
     let parts = symbol_parts (detail_by brief) shown.whole in
@@ -35,7 +35,7 @@ left-shown (Some x) brief s old new is p left = brief-shown brief s old new is p
 
 -- ## The beginning
 
--- the lists have the rooms that they were given, and there is a number for each byte
+-- the lists have the room that they were given, and there is a number for each byte
 rooms-begun : (s : List ℕ) (old new : Direct) (n : ℕ) → new.text ≡ old.text → new.aside ≡ old.aside → new.notes ≡ old.notes
     → new.numbers.items ≡ replicate n 0 → new.waiting.room ≡ old.waiting.room → n ≤ length s → HasRooms s old → HasRooms s new
 rooms-begun s old new n text aside notes numbers waiting few p =

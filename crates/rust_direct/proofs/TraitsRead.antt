@@ -14,7 +14,7 @@ use Rattle.rust_direct.proofs.Opened.{keeps-opened, stands-opened, wrapped}
 
 -- ## Impls
 
--- the path of an impl of a trait, which isn't shown, is expected
+-- the path of an impl of a trait is expected; the path isn't shown
 pub trait-begun : (brief : Bool) (s : List ℕ) (old new : Direct) (count end : ℕ) (plain : Bool) → AwaitsPath brief s old → StandsAt s old.at (88 ∷ [])
     → IsDisambiguatorAt s (old.at + 1) count end → old.is_aside ≡ false
     → new.waiting.list.items ≡ old.waiting.list.items ++ opens.TraitImpl old.at ∷ [] → new.waiting.room ≡ old.waiting.room

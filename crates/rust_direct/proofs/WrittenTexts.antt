@@ -34,14 +34,14 @@ written-after brief own y ys plain q = written-append brief own y own ys (writte
 pub written-before : (brief : Bool) (x xs own : List ℕ) → IsUnmarked own → IsWrittenAs brief x xs → IsWrittenAs brief (x ++ own) (xs ++ own)
 written-before brief x xs own plain p = written-append brief x own xs own p (written-plain brief own plain)
 
--- a text that is equal is written as bytes that are equal
+-- a written text and its bytes may be replaced by equal ones
 pub written-as : (brief : Bool) (x y xs ys : List ℕ) → x ≡ y → xs ≡ ys → IsWrittenAs brief x xs → IsWrittenAs brief y ys
 written-as brief x y xs ys e f p = subst (λ l. IsWrittenAs brief y l) f (subst (λ l. IsWrittenAs brief l xs) e p)
 
 pub written-spelled : (brief : Bool) (text bytes : List ℕ) → text ≡ bytes → IsUnmarked bytes → IsWrittenAs brief text bytes
 written-spelled brief text bytes e plain = subst (λ l. IsWrittenAs brief l bytes) (sym e) (written-plain brief bytes plain)
 
--- if arguments aren't shown, a text is the visible part of the bytes that it is written as
+-- if arguments aren't shown, a text is the visible part of its written bytes
 pub text-seen : (brief : Bool) (text bytes : List ℕ) → brief ≡ true → IsWrittenAs brief text bytes → text ≡ visible 0 bytes
 unfolding visible
 text-seen brief text bytes is p = sym (ap (visible 0) (sym (append-nil bytes)) ∙ p.seen is [] ∙ append-nil text)

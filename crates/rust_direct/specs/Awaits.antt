@@ -35,7 +35,7 @@ pub record Receives (brief : Bool) (s : List ℕ) (w : Direct) (entry : Open) (f
   pub keeps : Keeps brief s w state
   pub read : IsRead brief s w state (entry ∷ reverse w.waiting.list.items) from forms
 
--- What began at a place is read, and is to be noted.
+-- A value that began at a place is read, and is to be noted.
 pub record IsEnded (brief : Bool) (s : List ℕ) (w : Direct) (place from : ℕ) (noted forms : Forms) : Type 0 where
   pub before : State
   pub keeps : Keeps brief s w before
@@ -50,7 +50,8 @@ pub record IsEnded (brief : Bool) (s : List ℕ) (w : Direct) (place from : ℕ)
   pub comes : Comes s os v w.at (with_ended place v before)
   pub stands : Stands brief s (reverse w.waiting.list.items) os front (parked_of w)
 
--- A path that began at a place is read and not noted yet. The bound on its cost has room for one more path that prints the same.
+-- A path that began at a place is read and not noted yet. The bound on its cost has room for one more path that prints the same
+-- text.
 pub record IsEndedWithRoom (brief : Bool) (s : List ℕ) (w : Direct) (place from : ℕ) (forms : Forms) : Type 0 where
   pub ended : IsEnded brief s w place from forms forms
   pub p : tree.Path
@@ -58,7 +59,7 @@ pub record IsEndedWithRoom (brief : Bool) (s : List ℕ) (w : Direct) (place fro
   pub has : PathHas brief forms p ended.bytes
   pub room : HaveRoom brief forms p ended.bytes
 
--- The path of an impl, which isn't shown, is read. The impl's type is expected, in angles.
+-- The path of an impl is read; the path isn't shown. The impl's type is expected, in angle brackets.
 pub record AwaitsImplType (brief : Bool) (s : List ℕ) (w : Direct) (place : ℕ) : Type 0 where
   pub state : State
   pub keeps : Keeps brief s w state
@@ -68,7 +69,7 @@ pub record AwaitsImplType (brief : Bool) (s : List ℕ) (w : Direct) (place : �
   pub goes : TypeGoesOn s outer place (λ t. a_path (made t)) w.at state
   pub stands : Stands brief s (reverse w.waiting.list.items) outer w.text.list.items (parked_of w)
 
--- The path of an impl of a trait, which isn't shown, is read. The impl's type is expected, and after it the trait.
+-- The path of an impl of a trait is read; the path isn't shown. The impl's type is expected, and after it the trait.
 pub record AwaitsTraitType (brief : Bool) (s : List ℕ) (w : Direct) (place : ℕ) : Type 0 where
   pub state : State
   pub keeps : Keeps brief s w state
@@ -86,7 +87,7 @@ pub record IsSymbolEnded (brief : Bool) (s : List ℕ) (w : Direct) : Type 0 whe
   pub prints : PathPrints brief true p w.text.list.items
   pub ends : EndsSymbol s p w.at
 
--- an argument is expected, after the separator from the one before
+-- an argument is expected; the separator before it, if any, is written
 pub record AwaitsArgument (brief : Bool) (s : List ℕ) (w : Direct) (is_first : Bool) : Type 0 where
   pub state : State
   pub keeps : Keeps brief s w state

@@ -11,7 +11,7 @@ use Rattle.rust_grammar.specs.Value.{State, a_type, some_bounds}
 use Rattle.rust_direct.specs.Holes.{Opened, Comes, Expects, Ends, within}
 use Rattle.rust_direct.specs.Prints.{detail_by, IsWrittenAs, text_of_some, cost_of_some}
 
--- The bounds so far have this text, whatever bounds follow. A separator comes before the next one.
+-- The bounds so far have this text, whatever bounds follow. A separator comes before the next bound.
 pub record BoundsBegin (brief : Bool) (made : tree.Bounds → tree.Bounds) (separator bytes : List ℕ) : Type 0 where
   pub plain : IsUnmarked separator
   pub text_is : (rest : tree.Bounds) (more : List ℕ) → IsWrittenAs brief (text_of_some (bounds_from (detail_by brief) 0 separator rest)) more

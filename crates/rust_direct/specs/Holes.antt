@@ -18,7 +18,8 @@ use Rattle.rust_grammar.specs.Mangled.{v0_mangled}
 use Rattle.rust_grammar.specs.Value.{Value, State, a_path, a_type, some_types}
 use Rattle.rust_grammar.specs.Unfold.{v0, at_first, as_type, arguments_part, identifier_part, greatest_u64}
 
--- Rust as a language for this reader. The reading of a rule depends on the symbol, since a suffix is the rest of it.
+-- Rust as a language for this reader. The reading of a rule depends on the symbol, since a suffix is the rest of the
+-- symbol.
 abbrev pub rust_language : Language Value State ℕ
 rust_language = record { table = v0_table; reading = λ s. v0 s; first_context = 0; first_state = at_first }
 
@@ -91,7 +92,7 @@ IsDisambiguatorAt s at count end =
     ((count ≡ 0) × (end ≡ at))
     ⊎ ((n : ℕ) × StandsAt s at (115 ∷ []) × IsNumberAt s (at + 1) n end × (count ≡ n + 1) × (count ≤ greatest_u64))
 
--- a number in base 62 is at the place, and is less than the greatest of 64 bits; `end` is the place after it
+-- a number in base 62 is at the place, and is less than the greatest number of 64 bits; `end` is the place after it
 abbrev pub IsSmallNumberAt : (s : List ℕ) → (at end : ℕ) → Type 0
 IsSmallNumberAt s at end = (n : ℕ) × IsNumberAt s at n end × (n + 1 ≤ greatest_u64)
 
@@ -137,7 +138,7 @@ abbrev pub IsSymbol : (s : List ℕ) → tree.Path → (suffix : List ℕ) → T
 IsSymbol s p suffix =
     (other : Option tree.Path) × StandsFor v0_mangled s (Ok (record { path = p; instantiating = other; suffix = suffix }))
 
--- The paths of a symbol are read: the symbol ends at the place, or its suffix is there.
+-- The paths of a symbol are read: the symbol ends at the place, or its suffix begins there.
 pub record EndsSymbol (s : List ℕ) (p : tree.Path) (at : ℕ) : Type 0 where
   pub ends : at ≡ length s → IsSymbol s p []
   pub ends_in : (suffix : List ℕ) → StandsAt s at suffix → at + length suffix ≡ length s → IsSuffix suffix → IsSymbol s p suffix
@@ -176,14 +177,14 @@ abbrev pub PathPasses : (s : List ℕ) → (inner outer : List Opened) → (plac
 PathPasses s inner outer place made =
     (p : tree.Path) (at : ℕ) (st : State) → Comes s inner (a_path p) at st → Ends s outer place (made p) at st
 
--- A type is expected, as the last part of a value that is made of it.
+-- A type is expected, as the last part of a value that is made of the type.
 pub record TypeGoesOn (s : List ℕ) (outer : List Opened) (place : ℕ) (made : tree.Ty → Value) (at : ℕ) (st : State) : Type 0 where
   pub inner : List Opened
   pub production : Production
   pub awaits : Expects s TYPE inner at (within production st)
   pub passes : TypePasses s inner outer place made
 
--- A path is expected, as the last part of a value that is made of it.
+-- A path is expected, as the last part of a value that is made of the path.
 pub record PathGoesOn (s : List ℕ) (outer : List Opened) (place : ℕ) (made : tree.Path → Value) (at : ℕ) (st : State) : Type 0 where
   pub inner : List Opened
   pub production : Production

@@ -8,7 +8,8 @@ use Rattle.sym_core.specs.Value.{value_of}
 use Rattle.sym_direct.specs.Holes.{StandsAt}
 use Rattle.rust_direct.specs.Holes.{IsNameAt}
 
--- Digits are at the place. If they are the length of a name, the name's own bytes begin at `from`, and are `size` many.
+-- Digits are at the place. If they are the length of a name, the name's own bytes begin at `from`, and there are `size`
+-- of them.
 pub record IsLengthRead (s : List ℕ) (at from size : ℕ) : Type 0 where
   pub digits : List ℕ
   pub are_digits : AreDigitsOf Length digits

@@ -5,7 +5,8 @@ use Rattle.rust_grammar.specs.Unfold.{ended_at}
 use Rattle.rust_direct.specs.declared.open.Note.{Note}
 use Rattle.rust_direct.specs.PrintsInForm.{Says}
 
--- The text that a note is about: `text` if note and writer are both at the hidden or both at the shown text, otherwise `aside`.
+-- The text that a note is about: `text` if the note and the writer are both in the hidden text or both in the shown text,
+-- otherwise `aside`.
 abbrev pub home : (is_aside : Bool) → (note_is_aside : Bool) → (text aside : List ℕ) → List ℕ
 home true true text aside = text
 home false false text aside = text

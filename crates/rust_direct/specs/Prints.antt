@@ -31,8 +31,8 @@ pub record Spells (parts : Unshared) (bytes : List ℕ) : Type 0 where
   pub plain : IsUnmarked bytes
   pub cost : 1 + cost_of parts ≤ 4 * length bytes
 
--- A path with this text in a form: after a value, the path's arguments follow `::`. The path needs no lifetime that is bound
--- around it.
+-- A path with this text in a form: in the form of a value, the path's arguments follow `::`. The path needs no lifetime that
+-- is bound around it.
 pub record PathPrints (brief : Bool) (value : Bool) (p : Path) (bytes : List ℕ) : Type 0 where
   pub shows : Shows brief (path_parts (detail_by brief) 0 value p) bytes
   pub needs_none : need p ≡ 0
@@ -48,7 +48,7 @@ pub record TypePrints (brief : Bool) (t : Ty) (bytes : List ℕ) : Type 0 where
 
 -- ## Lists
 
--- what parts that may be missing print, and what they cost
+-- what optional parts print, and what they cost
 abbrev pub text_of_some : Option Unshared → List ℕ
 text_of_some None = []
 text_of_some (Some parts) = text_of parts
@@ -72,7 +72,7 @@ pub record ArgumentsPrint (brief : Bool) (args : Arguments) (bytes : List ℕ) :
   pub cost : cost_of_some (arguments_from (detail_by brief) 0 [] args) ≤ 4 * length bytes
   pub needs_none : need_of_arguments args ≡ 0
 
--- The arguments so far have this text, whatever arguments follow. A separator comes before the next one.
+-- The arguments so far have this text, whatever arguments follow. A separator comes before the next argument.
 pub record ArgumentsBegin (brief : Bool) (made : Arguments → Arguments) (separator bytes : List ℕ) : Type 0 where
   pub plain : IsUnmarked separator
   pub text_is : (rest : Arguments) (more : List ℕ) → IsWrittenAs brief (text_of_some (arguments_from (detail_by brief) 0 separator rest)) more

@@ -21,7 +21,7 @@ HaveRoom brief forms.Valued p bytes = HasRoom brief true p bytes
 HaveRoom brief forms.Plain p bytes = HasRoom brief false p bytes
 HaveRoom brief _ p bytes = ⊥
 
--- what is known of a value that was written in these forms, to a reference that names it
+-- what a reference may assume of the value that it names, if the value was written in these forms
 abbrev pub Says : (brief : Bool) → Forms → Value → (bytes : List ℕ) → Type 0
 Says brief forms.Typed v bytes = (t : Ty) × (as_type (Some v) ≡ Some t) × TypePrints brief t bytes
 Says brief forms.Unnamed v bytes = Unit {0}

@@ -40,7 +40,7 @@ pub record IsShown (brief : Bool) (s : List ℕ) (size : ℕ) (text : List ℕ) 
 
 -- ## What is made of types and paths
 
--- an impl prints its type in angles
+-- an impl prints its type in angle brackets
 abbrev pub ImplPrints : (brief : Bool) → (tree.Path → tree.Ty → tree.Path) → Type 0
 ImplPrints brief made =
     (value : Bool) (q : tree.Path) (t : tree.Ty) (bytes : List ℕ) → need q ≡ 0 → TypePrints brief t bytes
@@ -146,8 +146,8 @@ Stands brief s (opens.Array place from ∷ rest) os text parked =
     × ((v : Value) (t : tree.Ty) (at : ℕ) (st : State) → IsType v t → Comes s os v at st → SizeGoesOn s outer place t at st)
     × Stands brief s rest outer front parked
 
--- Nothing hidden is written yet: only entries for paths wait, and the text of each begins with that of the path that it waits
--- for.
+-- Nothing hidden is written yet: only entries for paths wait, and the text of each begins with the text of the path that it
+-- waits for.
 abbrev pub IsUnbegun : List Open → Type 0
 IsUnbegun [] = ⊥
 IsUnbegun (opens.Nest letter place ∷ rest) = IsUnbegun rest
@@ -173,7 +173,7 @@ pub record IsAwaited (brief : Bool) (s : List ℕ) (w : Direct) (state : State) 
   pub awaits : Expects s (kind_of wanted) os w.at state
   pub stands : Stands brief s (reverse w.waiting.list.items) os w.text.list.items (parked_of w)
 
--- a path or a type was read, whose text begins at a place
+-- a path or a type whose text begins at a place was read
 pub record IsRead (brief : Bool) (s : List ℕ) (w : Direct) (state : State) (waiting : List Open) (from : ℕ) (forms : Forms) : Type 0 where
   pub os : List Opened
   pub v : Value

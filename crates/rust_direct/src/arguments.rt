@@ -103,7 +103,7 @@ impl Direct {
         Some(Step::Type)
     }
 
-    /// Reads an erased lifetime among arguments; any other is given up.
+    /// Reads an erased lifetime among arguments; gives the symbol up at any other lifetime.
     // <generic-arg> = <lifetime>
     fn lifetime_argument<S: Showing>(&mut self, s: &[u8], _is_first: bool) -> Option<Step>
         requires letter { StandsAt s.now self.old.at (76 ∷ []) }

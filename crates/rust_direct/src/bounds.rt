@@ -28,7 +28,8 @@ impl Direct {
         Some(Step::Path { is_value: false })
     }
 
-    /// The path of a bound is read: another one follows, or the E. Bindings are given up.
+    /// The path of a bound is read: another bound follows, or the E. A symbol with bindings is
+    /// given up.
     // <dyn-bounds> = [<binder>] {<dyn-trait>} "E"
     pub(crate) fn bound_ended<S: Showing>(
         &mut self,
@@ -52,7 +53,8 @@ impl Direct {
         Some(Step::Path { is_value: false })
     }
 
-    /// The E of bounds, and an erased lifetime after it: any other lifetime is given up.
+    /// The E of bounds is read, and an erased lifetime after it. A symbol with any other lifetime
+    /// is given up.
     // <type> = "D" <dyn-bounds> <lifetime>
     fn bounds_ended<S: Showing>(
         &mut self,

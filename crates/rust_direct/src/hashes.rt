@@ -14,7 +14,7 @@ use sym_direct::byte_at;
 /// How many digits in base 62 most hashes of 64 bits have.
 const HASH_DIGITS: usize = 11;
 
-/// Whether a number of as many digits as a hash has, with these first two, stays below 64 bits.
+/// Whether a number of `HASH_DIGITS` digits that begins with these two digits fits in 64 bits.
 #[inline(always)]
 fn is_low(first: u8, second: u8) -> bool
     ensures first { result ≡ true → digit_value Base62 first ≤ 21 }
@@ -26,7 +26,7 @@ fn is_low(first: u8, second: u8) -> bool
     first <= b'9' || (b'a' <= first && first <= b'k')
 }
 
-/// Whether a number of `count` digits stays below 64 bits, by its length and its first two digits.
+/// Whether a number of `count` digits fits in 64 bits, by its length and its first two digits.
 #[inline(always)]
 fn is_small(count: usize, first: u8, second: u8) -> bool
     ensures few { result ≡ true → count ≤ 11 }
@@ -36,7 +36,8 @@ fn is_small(count: usize, first: u8, second: u8) -> bool
     count < HASH_DIGITS || (count == HASH_DIGITS && is_low(first, second))
 }
 
-/// The place after a number that is no longer than most hashes, if sixteen bytes are there.
+/// The place after a number that is no longer than most hashes, if the symbol has sixteen bytes
+/// from its first digit on.
 // <base-62-number> = {<0-9a-zA-Z>} "_"
 #[inline(always)]
 fn hash_end(s: &[u8], at: usize) -> Option<usize>

@@ -75,7 +75,7 @@ impl Direct {
         self.begin_impl_type::<S>(_s, place)
     }
 
-    /// The type of an impl follows, in angles.
+    /// The type of an impl follows, in angle brackets.
     // <path> = "M" <impl-path> <type>
     #[inline(always)]
     fn begin_impl_type<S: Showing>(&mut self, _s: &[u8], place: usize) -> Option<Step>

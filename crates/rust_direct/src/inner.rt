@@ -1,4 +1,4 @@
-// Impls within hidden text: their paths come before this text, while nothing of it is written yet.
+// Impls within hidden text: their paths are read while none of this text is written yet.
 
 ghost use Rattle.std.specs.Prelude.{◌≡◌, ◌+◌, ◌∷◌, [], reverse, true, false};
 ghost use Rattle.std.specs.Option.{OnSome};
@@ -34,7 +34,7 @@ impl Direct {
         false
     }
 
-    /// The path of an impl that isn't shown itself follows.
+    /// Begins an impl that isn't shown itself: the impl's path follows.
     // <path> = "M" <impl-path> <type>
     #[inline(never)]
     pub(crate) fn begin_inner_impl<S: Showing>(&mut self, _s: &[u8], behind: usize) -> Option<()>
@@ -51,7 +51,7 @@ impl Direct {
         Some(())
     }
 
-    /// The path of an impl of a trait that isn't shown itself follows.
+    /// Begins an impl of a trait, where the impl isn't shown itself: the impl's path follows.
     // <path> = "X" <impl-path> <type> <path>
     #[inline(never)]
     pub(crate) fn begin_inner_trait_impl<S: Showing>(

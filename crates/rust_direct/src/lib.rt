@@ -1,8 +1,8 @@
 //! The text of a Rust symbol, written while its bytes are read.
 //!
-//! Symbols of common parts are read this way: paths, impls, closures, and types that bind no lifetime. What is left to the
-//! general way is listed in docs/ARCHITECTURE.md ("The short ways"). A symbol with any of that is given up, and is read by its
-//! grammar: no answer depends on this crate, which `rust_short_way` takes step by step, and `rust_v0` may leave out.
+//! Symbols made of common parts are read this way: paths, impls, closures, and types that bind no lifetime. docs/ARCHITECTURE.md ("The
+//! short ways") lists what is left to the general way. A symbol with any of these is given up, and is read by its grammar. No answer
+//! depends on this crate: `rust_short_way` takes its steps, and `rust_v0` may leave it out.
 #![tactic(auto)]
 
 mod arguments;

@@ -13,7 +13,7 @@ use crate::lanes::{LANES, are_name_lanes};
 use sym_core::{NameClass, Span, TokenPlace, find_name};
 use sym_direct::byte_at;
 
-// For each byte 1 where it may not be in a name, else 0.
+// For each byte, 1 if it may not be in a name, and 0 otherwise.
 static BARRED: [u8; 256] = [
     1, 1, 1, 1, 1, 1, 1, 1, 1, 1, 1, 1, 1, 1, 1, 1, 1, 1, 1, 1, 1, 1, 1, 1, 1, 1, 1, 1, 1, 1, 1, 1,
     1, 1, 1, 1, 1, 1, 1, 1, 1, 1, 1, 1, 1, 1, 1, 1, 0, 0, 0, 0, 0, 0, 0, 0, 0, 0, 1, 1, 1, 1, 1, 1,
@@ -113,7 +113,7 @@ fn is_digit(byte: u8) -> bool
     b'0' <= byte && byte <= b'9'
 }
 
-// For each byte 1 where it is a decimal digit or an `_`, else 0.
+// For each byte, 1 if it is a decimal digit or an `_`, and 0 otherwise.
 static LENGTH_BYTES: [u8; 256] = [
     0, 0, 0, 0, 0, 0, 0, 0, 0, 0, 0, 0, 0, 0, 0, 0, 0, 0, 0, 0, 0, 0, 0, 0, 0, 0, 0, 0, 0, 0, 0, 0,
     0, 0, 0, 0, 0, 0, 0, 0, 0, 0, 0, 0, 0, 0, 0, 0, 1, 1, 1, 1, 1, 1, 1, 1, 1, 1, 0, 0, 0, 0, 0, 0,
@@ -229,7 +229,7 @@ pub fn name_at(s: &[u8], at: usize) -> Option<TokenPlace>
     any_name_at(s, at)
 }
 
-/// The name at a place where most are empty, as that of a closure.
+/// The name at a place where most names are empty, such as a closure's.
 // <undisambiguated-identifier> = <decimal-number> ["_"] <bytes>
 #[inline(always)]
 pub fn special_name_at(s: &[u8], at: usize) -> Option<TokenPlace>

@@ -169,7 +169,7 @@ pub enum Step {
     Path { is_value: bool },
     /// a type
     Type,
-    /// a path or a type was read, whose text begins at a place
+    /// a path or a type whose text begins at a place was read
     Value { from: usize, forms: Forms },
     /// an argument or the end of arguments
     Arguments { is_first: bool },

@@ -132,7 +132,7 @@ impl Direct {
         Some(())
     }
 
-    /// The parent of a path in a namespace is read: its name follows.
+    /// The parent of a path in a namespace is read: the path's name follows.
     // <path> = "N" <namespace> <path> <identifier>
     #[inline(always)]
     pub(crate) fn nest_ended<S: Showing>(
@@ -240,7 +240,8 @@ impl Direct {
         Some(())
     }
 
-    /// The empty name after a parent, as of a constructor or a type's constant: it prints nothing.
+    /// The empty name after a parent, such as that of a constructor or of a type's constant: it
+    /// prints nothing.
     // <path> = "N" <namespace> <path> <identifier>
     #[inline(never)]
     fn unnamed_ended<S: Showing>(

@@ -53,8 +53,8 @@ impl Direct {
         self.waiting.begin(size);
     }
 
-    /// Takes a step: begins an argument, its type and the path in it, and ends the entry that
-    /// waited for that path, as far as each is next.
+    /// Takes a step: begins an argument, the argument's type and the path in the type, each if it
+    /// is next, and ends the entry that waited for that path.
     // A step for each of these takes 11 % more instructions.
     #[inline(always)]
     pub fn take<S: Showing>(&mut self, s: &[u8], step: Step) -> Option<Step>
@@ -197,7 +197,7 @@ impl Direct {
         self.finish::<S>(s)
     }
 
-    /// The end of a symbol, after the text of its path: most have no suffix.
+    /// The end of a symbol, after the text of its path: most symbols have no suffix.
     // <symbol-name> = "_R" <path> [<instantiating-crate>] [<vendor-specific-suffix>]
     #[inline(always)]
     fn finish<S: Showing>(&mut self, s: &[u8]) -> Option<Step>
@@ -227,7 +227,7 @@ impl Direct {
         Some(Step::Ended)
     }
 
-    /// Removes what isn't to be shown from what was written.
+    /// Removes the parts that aren't to be shown from the written text.
     #[inline(always)]
     pub fn show<S: Showing>(&mut self, _s: &[u8]) -> Option<()>
         requires { IsWhole S.IS_BRIEF _s.now self.old.text.list.items }

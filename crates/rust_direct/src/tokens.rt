@@ -25,7 +25,7 @@ fn is_suffix_byte(byte: u8) -> bool
     }
 }
 
-// For each byte 1 where it is a letter, else 0.
+// For each byte, 1 if it is a letter, and 0 otherwise.
 static LETTERS: [u8; 256] = [
     0, 0, 0, 0, 0, 0, 0, 0, 0, 0, 0, 0, 0, 0, 0, 0, 0, 0, 0, 0, 0, 0, 0, 0, 0, 0, 0, 0, 0, 0, 0, 0,
     0, 0, 0, 0, 0, 0, 0, 0, 0, 0, 0, 0, 0, 0, 0, 0, 0, 0, 0, 0, 0, 0, 0, 0, 0, 0, 0, 0, 0, 0, 0, 0,
@@ -100,7 +100,7 @@ fn any_number_at(s: &[u8], at: usize) -> Option<(u64, usize)>
     Some((value, place.end))
 }
 
-/// The number in base 62 at a place, and the place after it: most have one digit or two.
+/// The number in base 62 at a place, and the place after it: most numbers have one digit or two.
 // <base-62-number> = {<0-9a-zA-Z>} "_"
 #[inline(always)]
 pub fn number_at(s: &[u8], at: usize) -> Option<(u64, usize)>

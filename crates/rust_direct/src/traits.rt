@@ -1,4 +1,4 @@
-// Impls of traits, and traits as a type implements them.
+// Impls of traits, and the traits that types implement.
 
 ghost use Rattle.std.specs.Prelude.{◌∷◌, []};
 ghost use Rattle.std.specs.Option.{IfSome};
@@ -56,7 +56,8 @@ impl Direct {
         self.begin_trait_type::<S>(_s, place)
     }
 
-    /// The path of an impl of a trait that isn't shown itself is read, and the impl's type follows.
+    /// The path of an impl of a trait is read, and the impl's type follows; the impl itself isn't
+    /// shown.
     // <path> = "X" <impl-path> <type> <path>
     pub(crate) fn inner_trait_impl_ended<S: Showing>(
         &mut self,
@@ -74,7 +75,7 @@ impl Direct {
         self.begin_trait_type::<S>(_s, place)
     }
 
-    /// The type that implements a trait follows, after an angle.
+    /// The type that implements a trait follows, after an angle bracket.
     // <path> = "X" <impl-path> <type> <path>
     #[inline(always)]
     fn begin_trait_type<S: Showing>(&mut self, _s: &[u8], place: usize) -> Option<Step>

@@ -21,7 +21,7 @@ fn tuple_end(is_first: bool) -> &'static [u8]
 }
 
 impl Direct {
-    /// The first type of a tuple follows: one without types is given up.
+    /// The first type of a tuple follows: a tuple without types is given up.
     // <type> = "T" {<type>} "E"
     pub(crate) fn begin_tuple<S: Showing>(&mut self, s: &[u8]) -> Option<Step>
         requires letter { StandsAt s.now self.old.at (84 ∷ []) }

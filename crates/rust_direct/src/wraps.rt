@@ -14,7 +14,7 @@ use crate::open::{Closing, Forms, Open, Step, is_type};
 use crate::showing::Showing;
 use sym_direct::byte_at;
 
-/// The place after an erased lifetime, or the same place if none is there.
+/// The place after an erased lifetime, or the same place if no erased lifetime is there.
 // <lifetime> = "L" <base-62-number>
 #[inline(always)]
 fn behind_erased(s: &[u8], at: usize) -> Option<usize>
@@ -92,7 +92,7 @@ impl Direct {
         Some(Step::Type)
     }
 
-    /// The entry of a type that waits for the other type that it is made of.
+    /// The entry that waits for the type that another type is made of.
     #[inline(always)]
     fn wrap(&self, closing: Closing) -> Open
         ensures { result ≡ opens.Wrap self.now.at (length self.now.text.list.items) closing }

@@ -20,7 +20,7 @@ impl Direct {
         self.text.push_all(text)
     }
 
-    /// Writes the bytes from a place to another one.
+    /// Writes the bytes from one place to another.
     #[inline(always)]
     pub(crate) fn push_part(&mut self, bytes: &[u8], from: usize, to: usize) -> Option<()>
         requires from { from ≤ to }
@@ -30,7 +30,7 @@ impl Direct {
         self.text.push_part(bytes, from, to)
     }
 
-    /// Writes a name after colons: the bytes from a place to another one.
+    /// Writes a name after colons: the bytes from one place to another.
     #[inline(always)]
     pub(crate) fn push_name(&mut self, bytes: &[u8], from: usize, to: usize) -> Option<()>
         requires from { from ≤ to }
@@ -91,7 +91,7 @@ impl Direct {
         Some(())
     }
 
-    /// Notes and forwards what began at a place and is read now.
+    /// Notes and forwards a path or a type that began at a place and is read now.
     #[inline(always)]
     pub(crate) fn ended<S: Showing>(
         &mut self,

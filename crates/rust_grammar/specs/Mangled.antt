@@ -1,4 +1,4 @@
--- Rust's mangling: what its symbols read as, and their answers.
+-- Rust's mangling: what its symbols are read as, and their answers.
 use Rattle.std.specs.Prelude.{ℕ, List, Result}
 use Rattle.sym_core.specs.declared.refusal.Refusal.{Refusal}
 use Rattle.sym_print.specs.declared.detail.Detail.{Detail}
@@ -14,7 +14,7 @@ use Rattle.rust_grammar.specs.Unfold.{unfolded}
 abbrev pub v0_mangled : Mangled tree.Symbol
 v0_mangled = record { table = v0_table; unfolded = unfolded; shown = symbol_parts; lawful = lawful }
 
--- what a symbol reads as, and the answer to it
+-- what a symbol is read as, and the answer to the symbol
 abbrev pub IsReading : List ℕ → Result tree.Symbol Refusal → Type 0
 IsReading s result = demangle.IsReading v0_mangled s result
 

@@ -64,7 +64,7 @@ abbrev pub symbol_rules : List Choice
 symbol_rules =
     takes (each (codes "_")) rules.Symbol (Byte 82 ∷ Kind PATH ∷ Kind OTHER_PATH ∷ Kind SUFFIX ∷ []) ∷ []
 
--- the forms of a path; its reference is set apart, since a type has one of its own
+-- the forms of a path; references are listed apart, since a type has references of its own
 abbrev pub path_forms : List Choice
 path_forms =
     takes (each (codes "C")) rules.Crate (Kind IDENTIFIER ∷ [])
@@ -192,8 +192,8 @@ truth_rules =
     takes (each (codes "0")) rules.False []
     ∷ takes (each (codes "1")) rules.True [] ∷ []
 
--- a kind that is never empty: its rules, what may follow it, how many chains rest on one another in it, and the height of its
--- lowest tree
+-- a kind that is never empty: its rules, what may follow it, its rank (above the ranks of the kinds that its chains begin
+-- with), and the height of its lowest tree
 abbrev pub kind : List Choice → List ByteRange → ℕ → ℕ → KindSheet
 kind choices after rank height = record { choices = choices; may_be_empty = false; after = after; rank = rank; height = height }
 

@@ -1,4 +1,4 @@
--- The grammar keeps the laws of tables, as the checker computes once.
+-- The grammar keeps the laws of tables: the checker computes this once.
 use Rattle.std.proofs.Common.{refl}
 use Rattle.sym_core.specs.declared.NameClass.TheVariants.{Rust}
 use Rattle.sym_shape.specs.Law.{IsLawful}

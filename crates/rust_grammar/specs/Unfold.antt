@@ -147,7 +147,7 @@ byte_at at = slice_index at.symbol at.place
 abbrev pub Meaning : Type 0
 Meaning = Result (Found Value State) Refusal
 
--- nothing has ended that a reference may name
+-- nothing that a reference may name has ended
 abbrev pub plain : At → Value → Meaning
 plain at value = Ok (record { value = value; state = record { ended = at.ended; inside = None; minus = false } })
 
@@ -164,7 +164,7 @@ ends_type at type = ends at (a_type type)
 abbrev pub ends_constant : At → tree.Constant → Meaning
 ends_constant at constant = ends at (a_constant constant)
 
--- what began at a place and has ended
+-- the value that began at a place, if it has ended
 abbrev pub ended_at : List Ended → ℕ → Option Value
 ended_at [] place = None
 ended_at (e ∷ es) place = if e.place == place then Some e.value else ended_at es place
@@ -184,7 +184,7 @@ abbrev pub as_constant : Option Value → Option tree.Constant
 as_constant (Some (a_constant constant)) = Some constant
 as_constant _ = None
 
--- The ended node that a reference names. Its number counts the bytes after `_R`.
+-- The ended node that a reference names. The reference's number counts the bytes after `_R`.
 abbrev pub referred : At → ℕ → Option Value
 referred at n = ended_at at.ended (n + 2)
 
@@ -388,8 +388,8 @@ abbrev pub meaning_of : Option Production → At → List Value → Meaning
 meaning_of None at parts = Err no_such_parts
 meaning_of (Some production) at parts = meaning production at parts
 
--- How many lifetimes are bound around the next part of a rule: a binder of `F` holds for all after it, a binder of `D` only for
--- its bounds.
+-- How many lifetimes are bound around the next part of a rule: a binder of `F` holds for all parts after it, a binder of `D`
+-- only for its bounds.
 abbrev pub bound_behind : Option Production → ℕ → List Value → ℕ
 bound_behind (Some rules.Function) outer (a_binder lifetimes ∷ _) = outer + lifetimes
 bound_behind (Some rules.Dyn) outer (a_binder lifetimes ∷ []) = outer + lifetimes

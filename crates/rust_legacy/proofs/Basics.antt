@@ -1,4 +1,4 @@
--- What proofs use of the libraries and of definitions, in one place to import it from.
+-- The library lemmas and definitions that this crate's proofs use, exported from one place.
 pub use Rattle.std.proofs.Common.{Bool, Err, List, Ok, Result, Vec, [], ap, append_assoc, arith, cond, drop, false, get_or, inl, inr, length, length-append, map, not, refl, subst, suc, sym, take, true, vec_capacity, vec_len, zero, ℕ, ◌&&◌, ◌*◌, ◌++◌, ◌+◌, ◌-◌, ◌<◌, ◌^◌, ◌∙◌, ◌∷◌, ◌≡◌, ◌≢◌, ◌≤◌}
 pub use Rattle.std.proofs.lemmas.Bool.Decides.{nat_tests}
 pub use Rattle.std.proofs.lemmas.List.{append-nil, drop-drop, drop_all, drop_more, length-drop, length-take, length-take-le, take-append-drop, take-append-le, take_rest}

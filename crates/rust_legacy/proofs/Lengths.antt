@@ -1,7 +1,7 @@
 -- Names by the digits of their lengths.
 use Rattle.rust_legacy.proofs.Basics.{◌≡◌, ℕ, ◌+◌, ◌-◌, ◌*◌, ◌<◌, ◌≤◌, List, [], ◌∷◌, length, take, drop, Bool, cond, ◌&&◌, not, refl, ap, sym, ◌∙◌, arith, true, false, get_or, Option, Some, None, codes, nat_le, nat_lt, nat_eq, ◌==◌, prefix_len, nat_tests, length-drop, drop-drop, drop_more, prefix_len-drop_yes, is_decimal_digit, value_of, Length, HasLength, Name, begins_with, name_in}
 
--- a name, by whether its length begins with a zero, by how many digits the length has, and by its value
+-- a name, given whether its length begins with a zero, how many digits the length has, and what value they denote
 abbrev by_length : (zero : Bool) (count size : ℕ) → List ℕ → Option Name
 by_length zero count size s =
     cond (not zero && nat_le count 9 && nat_lt 0 size && nat_le (count + size) (length s)) (Some (record { bytes = take size (drop count s); size = count + size })) None

@@ -25,7 +25,7 @@ after depth s found = elim found [ Some name ↦ with_name name.bytes (names_in 
 abbrev pub at_end : List ℕ → Option Path
 at_end s = Some (record { names = []; suffix = drop 1 s })
 
--- the names at a place are the name there and the names from its end on
+-- the names at a place are the name at this place and the names from that name's end on
 pub one_name : (depth : ℕ) (s : List ℕ) (at to : ℕ) (bytes : List ℕ) → length s - at < depth → at ≤ to
     → begins_with (codes "E") (drop at s) ≡ false → name_in (drop at s) ≡ Some (record { bytes = bytes; size = to - at })
     → (more : ℕ) × (depth ≡ suc more) × (names_in depth (drop at s) ≡ with_name bytes (names_in more (drop to s)))
@@ -63,7 +63,7 @@ names_after-cond : (b : Bool) (name : List ℕ) (names : List (List ℕ)) → na
 names_after-cond true name names = refl
 names_after-cond false name names = refl
 
--- the names before a last one, if this one is a hash
+-- the names before the last one, if the last one is a hash
 pub before_hash-append : (front : List (List ℕ)) (name : List ℕ) → before_hash (front ++ name ∷ []) ≡ cond {A = Option (List (List ℕ))} (is_hash name) (Some front) None
 before_hash-append [] name = refl
 before_hash-append (n ∷ []) name = names_after-cond (is_hash name) n []
@@ -114,17 +114,17 @@ AreNames-low s from to [] are = omega (arith, are)
 AreNames-low s from to (name ∷ rest) are =
     omega (arith, (name_size (drop from s) (record { bytes = name; size = are.0 }) are.1).0, AreNames-low s (from + are.0) to rest are.2)
 
--- between a place and itself there are no names
+-- there are no names between a place and itself
 pub AreNames-none : (s : List ℕ) (from : ℕ) (names : List (List ℕ)) → AreNames s from from names → names ≡ []
 AreNames-none s from [] are = refl
 AreNames-none s from (name ∷ rest) are = absurd (omega (arith, AreNames-low s from from (name ∷ rest) are))
 
--- between two different places there is at least one name
+-- there is at least one name between two different places
 pub some_names : (s : List ℕ) (from to : ℕ) (names : List (List ℕ)) → AreNames s from to names → (from ≡ to → ⊥) → 0 < length names
 some_names s from to [] are far = absurd (far are)
 some_names s from to (name ∷ rest) are far = omega arith
 
--- the path of names, by whether the last name is a hash
+-- the path of names, given whether the last name is a hash
 pub path_read : (s : List ℕ) (front : List (List ℕ)) (last suffix : List ℕ) (all : Option Path) → all ≡ Some (record { names = front ++ last ∷ []; suffix = suffix })
     → path_in all ≡ path_before_hash suffix (cond {A = Option (List (List ℕ))} (is_hash last) (Some front) None)
 path_read s front last suffix all whole = ap path_in whole ∙ ap (path_before_hash suffix) (before_hash-append front last)

@@ -58,7 +58,7 @@ none_there s hash at r more none = not_named s (
     ap path_in (r.whole ∙ ap (λ p. with_names r.before (with_names r.last p)) (no_name r.depth (drop at s) more none)
     ∙ ap (with_names r.before) (with_names-None r.last) ∙ with_names-None r.before))
 
--- at an E, the names that were read are all names
+-- at an E, the names that were read are all names of the symbol
 all_names : (s : List ℕ) (hash at : ℕ) (r : Reads s hash at) → begins_with (codes "E") (drop at s) ≡ true
     → names_in (length s) (drop 3 s) ≡ Some (record { names = r.before ++ r.last; suffix = drop (at + 1) s })
 all_names s hash at r is =
@@ -212,7 +212,7 @@ short_symbol s short = by (begins_with (codes "E") (drop 3 s)) refl
     by false e = not_named s (no_hash_path (names_in (length s) (drop 3 s)) (no_hash_in (length s) (drop 3 s) (omega (arith, short, length-drop 3 s)) e))
     by true e = few_names s 3 3 (begun s (ended_within s 3 e)) e refl
 
--- a symbol with another third byte than N doesn't begin with _ZN
+-- a symbol whose third byte isn't N doesn't begin with _ZN
 pub not_nested : (s : List ℕ) → 2 < length s → get_or s 2 0 ≢ 78 → begins_with (codes "_ZN") s ≡ false
 not_nested [] long other = absurd (omega (arith, long))
 not_nested (a ∷ []) long other = absurd (omega (arith, long))

@@ -95,7 +95,7 @@ before_few front (name ∷ next ∷ rest) names is = by (before_hash (next ∷ r
           omega (arith, less.1, ap (names_cost front) (sym same), names_cost-next front name n, names_cost-next front name (next ∷ rest)),
         ))
 
--- names without :: before the first one show no more, and cost no more, than with it
+-- without :: before the first name, names show no more and cost no more than with it
 bare_front : (names : List (List ℕ)) → (length (text_of (names_parts [] names)) ≤ length (text_of (names_parts (codes "::") names))) × (names_cost [] names ≤ names_cost (codes "::") names)
 bare_front [] = (omega arith, omega arith)
 bare_front (name ∷ rest) =

@@ -51,7 +51,7 @@ pub some_texts : (bytes : List ℕ) → 0 < length bytes → 0 < length (texts_o
 some_texts [] some = absurd (omega (arith, some))
 some_texts (byte ∷ rest) some = omega arith
 
--- after a token, what is written and what is left are still the whole text; likewise for the cost
+-- after a token, what is written and what is left still make the whole text; likewise for the cost
 pub goes : (bytes : List ℕ) (at size left paid now limit all : ℕ) (before mid out : List ℕ)
     → at < length bytes
     → now + length (token_of (drop at bytes)).text ≡ paid → out ≡ mid ++ (token_of (drop at bytes)).text
@@ -75,7 +75,7 @@ pub first_text : (bytes : List ℕ) → 0 < length bytes → (rest : List (List 
 first_text [] some = absurd (omega (arith, some))
 first_text (byte ∷ rest) some = (_, refl)
 
--- if the limit doesn't cover a token, or not even its item, it doesn't cover the whole
+-- a limit that doesn't cover a token, or even its item, doesn't cover the whole
 pub limit_passed : (bytes : List ℕ) (at left cost all limit : ℕ) → at < length bytes → left < cost → cost ≤ 1 + length (token_of (drop at bytes)).text
     → left + all ≡ limit + whole_cost (texts_of (drop at bytes)) → limit < all
 limit_passed bytes at left cost all limit some none within is =

@@ -15,13 +15,13 @@ is_legacy_byte byte = is_decimal_digit byte || is_upper_letter byte || is_lower_
 
 -- ## Names
 
--- a name in a symbol: its bytes, and how many bytes it has there with its length
+-- a name in a symbol: its bytes, and how many bytes of the symbol it takes, its length included
 pub record Name : Type 0 where
   pub bytes : List ℕ
   pub size : ℕ
 
--- The name at the front: its length, of one to nine digits, the first no zero, and that many bytes. The length takes all the
--- digits, so the name's first byte is no digit.
+-- The name at the front: its length, which has one to nine digits and no zero in front, and then that many bytes. The length
+-- takes all the digits, so the name's first byte isn't a digit.
 abbrev pub name_in : List ℕ → Option Name
 name_in s =
     let count = prefix_len is_decimal_digit s in
@@ -53,7 +53,7 @@ names_in (suc depth) s =
 abbrev pub is_hash : List ℕ → Bool
 is_hash name = begins_with (codes "h") name && (length name == 17) && (prefix_len (is_digit_of Hex) (drop 1 name) == 16)
 
--- the names before the last, where that one is a hash
+-- the names before the last one, if the last one is a hash
 abbrev pub before_hash : List (List ℕ) → Option (List (List ℕ))
 before_hash [] = None
 before_hash (name ∷ []) = if is_hash name then Some [] else None
@@ -68,7 +68,7 @@ abbrev pub path_in : (all : Option Path) → Option Path
 path_in (Some all) = path_before_hash all.suffix (before_hash all.names)
 path_in None = None
 
--- nothing, or a suffix: a dot and at least one byte more
+-- nothing, or a suffix: a dot and at least one more byte
 abbrev pub is_suffix : List ℕ → Bool
 is_suffix suffix = (length suffix == 0) || (begins_with (codes ".") suffix && nat_lt 1 (length suffix))
 

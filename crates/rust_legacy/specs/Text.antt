@@ -7,7 +7,7 @@ use Rattle.sym_print.specs.Answer.{text_within}
 use Rattle.rust_legacy.specs.Path.{Path, legacy_of}
 use Rattle.rust_legacy.specs.Tokens.{texts_of, bare_name}
 
--- the parts of a name: the text of its first token, and an item of the tokens after it, where there are any
+-- the parts of a name: the text of its first token and, if there are more tokens, an item of those
 abbrev pub name_parts : (texts : List (List ℕ)) → Unshared
 name_parts [] = done
 name_parts (text ∷ []) = bytes text done
@@ -16,7 +16,8 @@ name_parts (text ∷ next ∷ rest) = bytes text (item (name_parts (next ∷ res
 abbrev pub shown_name : List ℕ → Unshared
 shown_name name = name_parts (texts_of (bare_name name))
 
--- the parts of names: what precedes the first name, its item, and an item of the names after it, if there are any, each after ::
+-- the parts of names: what precedes the first name, the item of that name and, if there are more names, an item that shows each
+-- of them after ::
 abbrev pub names_parts : (front : List ℕ) → List (List ℕ) → Unshared
 names_parts front [] = done
 names_parts front (name ∷ []) = front then item (shown_name name) done
@@ -35,10 +36,10 @@ suffix_parts (byte ∷ rest) = bytes (codes " (") (bytes (byte ∷ rest) (bytes 
 abbrev pub shown_path : Path → Unshared
 shown_path path = item (names_parts [] path.names) (suffix_parts path.suffix)
 
--- the answer for a legacy name: the text of its path where that costs at most the limit
+-- the answer for a legacy name: the text of its path if that text costs at most the limit
 abbrev pub legacy_text : (limit : ℕ) → List ℕ → Option (Result (List ℕ) Refusal)
 legacy_text limit s = elim (legacy_of s) [ Some path ↦ Some (text_within limit (shown_path path)) | None ↦ None ]
 
--- the answer for a symbol: that for its path if it is a legacy name, and the other answer if it isn't
+-- the answer for a symbol: if the symbol is a legacy name, the answer for its path, and otherwise `other`
 abbrev pub legacy_answer : (limit : ℕ) → List ℕ → (other : Result (List ℕ) Refusal) → Result (List ℕ) Refusal
 legacy_answer limit s other = elim (legacy_text limit s) [ Some answer ↦ answer | None ↦ other ]

@@ -33,7 +33,7 @@ fn token_length(bytes: &[u8]) -> (usize, usize)
     (size, size)
 }
 
-/// How many bytes the texts of all tokens of bytes have.
+/// How many bytes the texts of all tokens in `bytes` have.
 fn tokens_length(bytes: &[u8]) -> usize
     ensures { result ≡ length (text_of (name_parts (texts_of bytes.now))) }
 {

@@ -27,7 +27,7 @@ pub struct PathPlace {
     pub end: usize,
 }
 
-// For each byte whether it may be in a legacy name: letters, digits, `_`, `.` and `$`.
+// For each byte, whether it may be in a legacy name: letters, digits, `_`, `.` and `$`.
 static LEGACY_BYTES: [bool; 256] = [
     false, false, false, false, false, false, false, false, false, false, false, false, false,
     false, false, false, false, false, false, false, false, false, false, false, false, false,
@@ -58,7 +58,7 @@ fn is_legacy_byte(byte: u8) -> bool
     LEGACY_BYTES[byte as usize]
 }
 
-/// Whether each byte may be in a legacy name, and how many turns the test took. All are examined, with no branch for each.
+/// Whether each byte may be in a legacy name, and how many turns the test took. All bytes are examined, without a branch for each.
 fn are_legacy_bytes(bytes: &[u8]) -> (bool, usize)
     ensures are { result.0 ≡ list_all is_legacy_byte bytes.now }
     ensures turns { result.1 ≤ length bytes.now }

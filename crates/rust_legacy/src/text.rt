@@ -13,7 +13,7 @@ use crate::path::{PathPlace, name_at};
 use crate::tokens::{pay, write, write_token};
 use sym_core::Refusal;
 
-/// Writes bytes token by token, each an item, and answers what is left to spend.
+/// Writes bytes token by token, each token as an item, and answers what is left to spend.
 fn write_tokens(limit: u32, bytes: &[u8], out: &mut Vec<u8>) -> Result<u32, Refusal>
     requires { 0 < length bytes.now }
     ensures ok { IfOk result (λ now. IsWritten limit now (text_of (name_parts (texts_of bytes.now))) (cost_of (name_parts (texts_of bytes.now))) out.old.items out.new.items) }
@@ -57,7 +57,8 @@ fn write_front(left: u32, at: usize, out: &mut Vec<u8>) -> Result<u32, Refusal>
     write(left, b"::", out)
 }
 
-/// Writes the names of a path, each an item with those after it, and answers what is left to spend.
+/// Writes the names of a path as nested items (a name, and an item of the names after it), and
+/// answers what is left to spend.
 fn write_names(limit: u32, symbol: &[u8], hash: usize, out: &mut Vec<u8>) -> Result<u32, Refusal>
     requires within { hash ≤ length symbol.now }
     requires names { (names : List (List ℕ)) × AreNames symbol.now 3 hash names × (0 < length names) }
@@ -112,7 +113,7 @@ fn write_path(
 
 /// Appends the text of a legacy name, if it costs at most the limit. The name's path is at a place that `path_of` found.
 ///
-/// What it spends is the text's cost, and each turn of its loops spends at least 1.
+/// The call spends the text's cost, and each turn of its loops spends at least 1.
 ///
 /// # Errors
 ///

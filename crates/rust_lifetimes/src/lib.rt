@@ -12,8 +12,8 @@ pub fn from_outermost(bound: u64, lifetime: u64) -> u64
     bound.saturating_sub(lifetime)
 }
 
-/// How many lifetimes must be bound around a construct with a binder of n, by how many must be
-/// bound within.
+/// How many lifetimes must be bound around a construct with a binder of n lifetimes, given how many
+/// must be bound within it.
 #[inline(always)]
 pub fn around_binder(within: u64, binder: u64) -> u64
     ensures { result ≡ within - binder }

@@ -1,9 +1,9 @@
--- The text of a symbol has at most as many marks as printing it takes steps.
+-- The text of a symbol has at most one mark for each step of printing it.
 use Rattle.rust_parts.proofs.Basics.{◌≡◌, ℕ, ◌+◌, ◌≤◌, List, take, drop, arith, Path, Symbol, crate_root, inherent_impl, trait_impl, trait_definition, nested, generic, Unshared, done, bytes, item, text_of, steps_of_parts, Marked, text, marked, marks_in, ◌before◌, plain, whole, alone, numbered, only, suffixed, Role, Ordinal, argument, elements, listed, arguments, of_trait, of_type, implementation, scope, scoped, name, symbol_marked}
 use Rattle.sym_parts.specs.Marked as marks
 use Rattle.sym_parts.specs.declared.role.Role.TheVariants as role
 
--- two marked texts in turn have as many marks as both together
+-- a marked text followed by another one has as many marks as both together
 joined : (m others : Marked) → marks_in (m before others) ≡ marks_in m + marks_in others
 unfolding marks_in ◌before◌
 joined marks.done others = omega arith
@@ -115,7 +115,7 @@ few-suffixed (item one rest) = omega (arith, few-plain (item one rest))
 few-suffixed (bytes b done) = omega (arith, few-plain (bytes b done))
 few-suffixed (bytes b (item one rest)) = omega (arith, few-plain (bytes b (item one rest)))
 
--- a whole symbol has at most as many marks as printing it takes steps
+-- a whole symbol has at most one mark for each step of printing it
 pub few-symbol : (s : Symbol) (u : Unshared) → marks_in (symbol_marked s u) ≤ steps_of_parts u
 unfolding symbol_marked
 few-symbol s (item one rest) =

@@ -33,7 +33,7 @@ module _ (y : ReadSymbol) (most : ℕ) where
   pub as-plain : (old new : List (Task Apart)) (u : Unshared) (m : Marked) (t : ℕ) → new ≡ task.Skip (length (printed.text_of u)) ∷ old → plain u ≡ m → 1 ≤ t → Grows y most old new m t
   as-plain old new u m t is same few = grow-same old new (plain u) m 1 t (grow-plain old new u is) same few
 
-  -- the tasks for one part of all that is printed add the part
+  -- the tasks for one part that has all of the printed text add the part
   pub grow-whole : (old new : List (Task Apart)) (role : Role) (ordinal : Ordinal) (u : Unshared) → new ≡ task.Begin role ordinal (length (printed.text_of u)) ∷ task.Skip (length (printed.text_of u)) ∷ old
       → Grows y most old new (whole role ordinal u) 2
   grow-whole = growing.grow-whole (marked_of y) (IsApart y most) (weight_of y)
@@ -51,7 +51,7 @@ module _ (y : ReadSymbol) (most : ℕ) where
       let between : List (Task Apart) = task.Begin role ordinal (length c) ∷ task.Skip (length c) ∷ old in
       grow-then old between new (alone role ordinal c marks.done) (text b marks.done) 2 1 (grow-alone old between role ordinal (length c) c refl refl) (grow-skip between new (length b) b is refl)
 
-  -- a task for what is taken apart later adds its marks
+  -- a task for a piece that is taken apart later adds the piece's marks
   pub grow-name : (old new : List (Task Apart)) (lists node : ℕ) (i : Item Context) → new ≡ task.Later (apart.Name lists node i) ∷ old → node < length y.table.nodes → IsPayable y most i → lists + cost_of (unshared_of y i) ≤ most
       → Grows y most old new (name lists (path_at y node) (unshared_of y i)) (4 * steps_of (unshared_of y i))
   unfolding marked_of IsApart weight_of

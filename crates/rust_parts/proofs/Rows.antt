@@ -87,7 +87,7 @@ row-trait : parts_in Full (with_suffix (closure_in baz) "")
 unfolding foo baz closure_in named with_suffix part an_argument parts_in digits basic_text namespace_text path_parts symbol_parts text_of stretches_from ◌before◌ suffixed of_trait of_type scope scoped name symbol_marked
 row-trait = refl
 
--- foo::bar, where a path without a name is around it
+-- foo::bar, within a path that has no name
 row-unnamed : parts_in Full (with_suffix (nested 110 bar (named "")) "") ≡ part role.Scope 0 3 ∷ part role.Crate 0 3 ∷ part role.Base 5 3 ∷ []
 unfolding foo bar named with_suffix part an_argument parts_in path_parts symbol_parts text_of stretches_from ◌before◌ suffixed scope scoped name symbol_marked
 row-unnamed = refl

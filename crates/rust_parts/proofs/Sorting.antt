@@ -67,7 +67,7 @@ neither : (b : Bool) → ((if b then PUNYCODE_NESTED else NESTED) ≡ NESTED →
 neither true plain puny = puny refl
 neither false plain puny = plain refl
 
--- a tree with none of the other productions of paths has a crate as its path, even where it is no path
+-- a tree with none of the other productions of paths has a crate as its path, even if the tree is no path
 pub is-crate : (o : Option Tree) → ((fields_in o).production ≡ NESTED → ⊥) → ((fields_in o).production ≡ PUNYCODE_NESTED → ⊥) → ((fields_in o).production ≡ GENERIC → ⊥)
     → ((fields_in o).production ≡ INHERENT_IMPL → ⊥) → ((fields_in o).production ≡ TRAIT_IMPL → ⊥) → ((fields_in o).production ≡ TRAIT_DEFINITION → ⊥)
     → (own : Identifier) × (path_in o ≡ crate_root own)

@@ -1,4 +1,4 @@
--- The clauses of the definition, for what an item prints in the shape that the code found.
+-- The clauses of the definition, for printed items of the shape that the code found.
 use Rattle.rust_parts.proofs.Basics.{◌≡◌, ℕ, ◌+◌, ◌-◌, ◌<◌, List, take, drop, length, min, sym, ap, ◌∙◌, arith, length-take, length-drop, subst, ReadSymbol, Path, Symbol, Unshared, done, bytes, item, text_of, Marked, text, marked, ◌before◌, plain, whole, alone, numbered, only, suffixed, argument, elements, listed, arguments, of_trait, of_type, implementation, scope, scoped, name, symbol_marked, IsBelow, name_by, path_at, scope_by, PathSort}
 use Rattle.sym_parts.specs.Marked as marks
 use Rattle.sym_parts.specs.declared.role.Role.TheVariants as role

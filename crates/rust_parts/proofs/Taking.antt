@@ -1,4 +1,4 @@
--- The walk: what one task of a Rust symbol changes of the tasks that are left, and how the walk begins.
+-- The walk: how one task of a Rust symbol changes the tasks that are left, and how the walk begins.
 use Rattle.rust_parts.proofs.Basics.{◌≡◌, ℕ, ◌+◌, ◌*◌, ◌-◌, ◌<◌, ◌≤◌, List, [], ◌++◌, length, sym, ap, ◌∙◌, arith, subst, All, Context, ReadSymbol, MayCome, unshared_of, Item, Unshared, cost_of, steps_of_parts, length_of_text, stretches_of, stretches_at, skipped, IsTask, marks_of_task, marks_of_tasks, weight_of_task, weight_of_tasks, Task, begins, grown, elements, name, scope, symbol_marked, whole_of, path_at, ArePayable, Grows, IsApart, IsPayable, marked_of, printed_by, weight_of, Apart}
 use Rattle.sym_print.specs.declared.layout.Part.{Part}
 use Rattle.sym_parts.specs.Found.{Found}

@@ -12,7 +12,7 @@ use Rattle.sym_parts.specs.declared.spelling.Ordinal.{Ordinal}
 
 -- ## Arguments
 
--- the arguments of a name's lists are numbered by their list, and in it from 1 on
+-- the arguments of a name's lists are numbered by their list, and within each list from 1 on
 abbrev pub argument : (list number : ℕ) → Ordinal
 argument list number = record { item = list; element = number }
 
@@ -29,7 +29,7 @@ unfoldable mutual
   listed list number (item others rest) = elements list number others before plain rest
   listed list number printed = plain printed
 
--- a list of arguments in brackets, after two colons that are in no part; in brief there are none
+-- a list of arguments in brackets, after two colons that are in no part; in brief there is no list
 unfoldable pub arguments : (list : ℕ) → Unshared → Marked
 arguments list (bytes opening rest) =
     text (take 2 opening) (marked role.GenericArguments (numbered list) (text (drop 2 opening) (listed list 1 rest)) marks.done)

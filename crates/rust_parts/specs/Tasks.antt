@@ -19,11 +19,11 @@ use Rattle.rust_parts.specs.declared.apart.Apart.TheVariants as apart
 abbrev pub printed_by : ReadSymbol → List (Part Context) → Unshared
 printed_by y parts = joined (unshared_of y) (bytes_of_part y) parts
 
--- an item that may be asked for, and costs at most this much
+-- an item that may be requested, and costs at most this much
 abbrev pub IsPayable : ReadSymbol → (most : ℕ) → Item Context → Type 0
 IsPayable y most i = split.IsPayable (unshared_of y) (bytes_of_part y) (MayCome y) most i
 
--- parts that may be asked for, and cost at most this much
+-- parts that may be requested, and cost at most this much
 abbrev pub ArePayable : ReadSymbol → (most : ℕ) → List (Part Context) → Type 0
 ArePayable y most parts = split.ArePayable (unshared_of y) (bytes_of_part y) (MayCome y) most parts
 
@@ -45,6 +45,6 @@ weight_of y (apart.Name lists node i) = 4 * steps_of (unshared_of y i)
 weight_of y (apart.Scope lists node i) = 4 * steps_of (unshared_of y i)
 weight_of y (apart.Elements list number i) = 4 * steps_of (unshared_of y i)
 
--- what was added before other tasks has grown by these marks, and by this many steps at most
+-- tasks were added before the old ones; they lead to these marks, and take this many steps at most
 abbrev pub Grows : ReadSymbol → (most : ℕ) → (old new : List (Task Apart)) → Marked → (steps : ℕ) → Type 0
 Grows y most old new m steps = tasks.Grows (marked_of y) (IsApart y most) (weight_of y) old new m steps

@@ -10,6 +10,7 @@ pub(crate) enum Apart {
     Name(u32, u32, Item<Context>),
     /// The path that a name is in, before this many lists of arguments.
     Scope(u32, u32, Item<Context>),
-    /// The arguments of a list from one on, by the numbers of the list and of the argument.
+    /// The arguments of a list from a given one on, by the numbers of the list and of that
+    /// argument.
     Elements(u32, u32, Item<Context>),
 }

@@ -35,7 +35,7 @@ fn is_passed(y: &Symbol, node: u32) -> bool
     found.numbers[0] >= 97 && text.is_empty()
 }
 
-/// What a symbol's name is. It takes no memory.
+/// What a symbol's name is. This call takes no memory.
 pub fn kind_of(y: &Symbol) -> NameKind
     ensures { result ≡ kind_of_symbol (whole_of y.now) }
 {

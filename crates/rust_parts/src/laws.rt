@@ -14,8 +14,8 @@ pub fn marks_change_no_text()
     ensures { (s : tree.Symbol) (printed : Unshared) → marks.text_of (symbol_marked s printed) ≡ text_of printed }
 {}
 
-/// The stretches are slices of what is printed, in the order of their starts; of two stretches one
-/// is within the other, or they are apart.
+/// The stretches are slices of what is printed, in the order of their starts; two stretches are
+/// apart, or one is within the other.
 pub fn stretches_are_placed()
     ensures { (s : tree.Symbol) (printed : Unshared) → AreStretchesPlaced (length (text_of printed)) (stretches_of (symbol_marked s printed)) }
 {}

@@ -179,7 +179,7 @@ fn push_scoped(
     tasks.push(Task::Begin(Role::Scope, ONLY, outer))
 }
 
-/// A name after its parent, by the item of its parent and what is after that.
+/// A name after its parent, by the item of its parent and what follows the parent.
 ///
 /// # Errors
 ///

@@ -145,7 +145,7 @@ fn take(
 ///
 /// # Errors
 ///
-/// `TooLong` exactly where it costs more, `Memory` where a list couldn't grow.
+/// `TooLong` exactly where the text costs more, `Memory` where a list couldn't grow.
 pub fn stretches_as(
     alloc: Global,
     y: &Symbol,
@@ -172,7 +172,7 @@ pub fn stretches_as(
 ///
 /// # Errors
 ///
-/// `TooLong` exactly where it costs more, `Memory` where a list couldn't grow.
+/// `TooLong` exactly where the text costs more, `Memory` where a list couldn't grow.
 pub fn stretches(alloc: Global, y: &Symbol, limit: u32) -> Result<Vec<Stretch>, Refusal>
     ensures stretches { IfOk result (λ found. found.items ≡ stretches_of (symbol_marked (whole_of y.now) (shown_symbol Detail.Full y.now))) }
     ensures within { OnOk result (cost_of (shown_symbol Detail.Full y.now) ≤ limit) }

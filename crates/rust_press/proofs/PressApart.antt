@@ -1,4 +1,5 @@
--- What pressing spells out is spelled out once, since the components in a tree are smaller than the tree.
+-- Each component that pressing spells out is spelled out once, since the components in a tree are smaller than the
+-- tree.
 use Rattle.rust_press.proofs.Basics.{◌≡◌, ℕ, zero, suc, ◌+◌, ◌<◌, ◌≤◌, length, List, [], ◌∷◌, ◌++◌, Option, Some, None, Bool, true, false, refl, ap, arith, sym, subst, ◌∙◌, append_assoc, if◌then◌else◌, Tree, of_path, of_type, of_constant, same_tree, IsNew, AreApart, ComponentsAreApart, ◌and◌, text, letter, Component, Pressed, Pressing, number62, number16, counted, mark_if, press_name, count_of, identifier_of, press_identifier, press_lifetime, some_lifetime, press_abi, first_place, either, spelled_out, component, press_constant, spell_constant, path_or_reference, type_or_reference, spell_path, spell_type, press_arguments, press_types, press_bounds, press_bindings, press_path, press_other}
 use Rattle.rust_tree.specs.Symbol as tree
 use Rattle.rust_press.proofs.Sameness.{equal-tree}

@@ -122,7 +122,7 @@ behind-nothing s rule taken bound symbols known row R one at before front back p
     same : place ≡ place + 0
     same = omega arith
 
--- what is read as values for which Q holds is read as values for which R holds, if Q implies R
+-- if Q implies R, a part read as values for which Q holds is read as values for which R holds
 pub reads-as : {s : List ℕ} {bound : ℕ} {inside : Option Production} {minus : Bool} {symbol : Sym} {Q R : List Value → Type 0} {place : ℕ} {ended : List Ended} {pressed : Pressed}
     → ((values : List Value) → Q values → R values) → Reads s bound inside minus symbol Q place ended pressed → Reads s bound inside minus symbol R place ended pressed
 reads-as more a = record {

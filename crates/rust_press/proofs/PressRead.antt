@@ -71,8 +71,8 @@ abbrev pub AllGood : Production → (bound : ℕ) → List Value → Type 0
 AllGood p b [] = Unit {0}
 AllGood p b (v ∷ vs) = IsGood p b v × AllGood p b vs
 
--- The parts of a rule whose first part may be a binder. In a function, the binder's lifetimes are bound in all parts after it,
--- and in a `dyn` in its bounds.
+-- The parts of a rule whose first part may be a binder. In a function, the binder's lifetimes are bound in all parts after the
+-- binder; in a `dyn`, they are bound in the bounds.
 abbrev pub FunctionGood : (outer : ℕ) → List Value → Type 0
 FunctionGood outer (value.a_binder n ∷ rest) = (n ≤ 1000) × AllGood rules.Function (outer + n) rest
 FunctionGood outer known = AllGood rules.Function outer known

@@ -1,4 +1,4 @@
--- What a shape of the grammar is read as can be spelled.
+-- If a shape of the grammar is read as a symbol, the symbol can be spelled.
 use Rattle.rust_press.proofs.Basics.{◌≡◌, ℕ, zero, suc, ◌+◌, ◌<◌, ◌≤◌, length, List, [], ◌∷◌, ◌++◌, Option, Some, None, Bool, true, false, Ok, refl, ap, arith, sym, subst, ◌∙◌, length-append, append_assoc, append-nil, same_Some, drop-append_seam, ◌==◌, if◌then◌else◌, nat_lt, codes, ◌&&◌, ◌*◌, not, Result, Err, get_or, ltb-true, and_parts, Base62, Hex, Rule, Sym, Kind, Name, Number, Byte, need, Production, production_of, v0_table, taking, Value, State, v0, At, bound_behind, is_minus, meaning, meaning_of, token_of, value62, value16, slice_index, drop, list_all, AllByRecursion, nat_tests, Refusal, Length, Rust, AreDigits, AreDigitsOf, IsLengthForm, is_digit_of, digit_value, value_onto, value_of, Token, ByteRange, Choice, KindSheet, classes_of, in_ranges, are_covered, choice_at, are_covered_in, symbols_of, IsToken, Found, Open, ◌>>=◌, unfold_tree, unfold_forest, standing, alone, kinds, no_kind, suffix_bytes, each, Meaning, path_part, other_path_part, suffix_part, at_rule, at_first, symbol_of, unfolded, most62, IsSpellable, IsSpellableName, IsSpellableSuffix, IsSpellableSymbol, IsClosedOther}
 use Rattle.rust_tree.specs.Symbol as tree
 use Rattle.rust_grammar.specs.declared.production.Production.TheVariants as rules
@@ -437,7 +437,7 @@ whole-symbol : (values : List Value) (v : Value) → values ≡ v ∷ [] → IsW
 whole-symbol values (value.a_symbol x) is good = rw is good
 whole-symbol values _ is good = absurd good
 
--- what is read as the suffix at the end of a symbol is a suffix that can be spelled, or nothing
+-- a suffix that is read at the end of a symbol can be spelled, or is empty
 suffix-read : (s : List ℕ) (place : ℕ) (tree : Shape) (state : State) (front : List ℕ) → place ≡ length front → s ≡ front ++ spell tree → IsTree v0_table (Kind 3) tree
     → Holds (λ f. MaybeSuffix f.value) (unfold_tree (v0 s) 0 place tree state)
 suffix-read s place empty state front is-at is tree = tt
@@ -460,7 +460,7 @@ suffix-read s place (branch rule taken parts) state front is-at is (takes, are) 
 abbrev pub symbol_rule : Rule
 symbol_rule = taking rules.Symbol (Byte 82 ∷ Kind 1 ∷ Kind 2 ∷ Kind 3 ∷ [])
 
--- what the one rule of symbols is read as can be spelled
+-- if the one rule of symbols is read as a symbol, the symbol can be spelled
 rule-read : (byte : ℕ) (a b d : Shape) → IsTree v0_table (Kind 1) a → IsTree v0_table (Kind 2) b → IsTree v0_table (Kind 3) d
     → Holds IsSpellableSymbol (unfolded (branch symbol_rule (byte ∷ []) (grown (fixed 82) (grown a (grown b (grown d shape.nothing))))))
 rule-read byte a b d a-is b-is d-is =
@@ -532,7 +532,7 @@ whole-shape (branch rule taken parts) (takes, are) = go (in_ranges (each (codes 
           suffix_is = four.6;
         }
 
--- each symbol that a shape of the grammar is read as can be spelled
+-- if a shape of the grammar is read as a symbol, the symbol can be spelled
 pub read-spellable : (tree : Shape) → IsTree v0_table (Kind 0) tree → Holds IsSpellableSymbol (unfolded tree)
 read-spellable tree is =
     let whole = whole-shape tree is in

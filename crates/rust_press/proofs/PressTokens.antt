@@ -7,7 +7,8 @@ use Rattle.rust_press.proofs.PressParts.{takes-plain, takes-ends, chains-plain, 
 use Rattle.rust_press.proofs.PressNumbers.{spells62, spells16, spells-name}
 use Rattle.rust_press.proofs.PressReferences.{constant-presses}
 
--- for `Makes`, a rule makes of these values something that is no component; for `Ends`, a component
+-- `Makes`: from these values, a rule makes something that is no component; `Ends`: from these values, a rule makes a
+-- component
 abbrev pub Makes : Rule → (byte bound : ℕ) → Value → List Value → Type 0
 Makes rule byte bound v values = (at : At) → byte_at at ≡ byte → at.bound ≡ bound → meaning_of (production_of rule.number) at values ≡ plain at v
 

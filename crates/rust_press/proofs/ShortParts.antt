@@ -120,11 +120,11 @@ reference-short p place cs low = omega (arith, number-short (p - 2) (omega (arit
 
 -- ## What parts write
 
--- Spelling adds only components that are there already, or that have ended.
+-- After a spelling, each component is one of the earlier components or has ended.
 abbrev pub Stays : Pressing → List Ended → Type 0
 Stays f es = (place : ℕ) (cs : List Component) (own : Tree) → Has own (f place cs).components → Has own cs ⊎ Listed own es
 
--- Spelling out a tree that has ended adds only components that are there already, or that have ended.
+-- After a tree that has ended is spelled out, each component is one of the earlier components or has ended.
 abbrev pub IsClosed : List Ended → Type 0
 IsClosed es = (own : Tree) → Listed own es → Stays (spelled own) es
 

@@ -117,7 +117,8 @@ abbrev pub least_all : List Sym → ℕ
 least_all [] = 0
 least_all (x ∷ xs) = least x + least_all xs
 
--- The parts of a rule, after the known ones, have these values and are pressed as `h`.
+-- The known values, followed by those of the parts that are left of a rule, are `values`; these parts are pressed as
+-- `h`.
 abbrev pub Row : Option Production → List Sym → (known values : List Value) → Pressing → Type 0
 Row o [] known values h = (values ≡ known) × (◌≡◌ {A = Pressing} h nothing)
 Row o (x ∷ xs) known values h =
@@ -125,7 +126,8 @@ Row o (x ∷ xs) known values h =
 
 -- ## What a rule makes
 
--- a rule makes something that doesn't end; its spelling begins with the rule's own bytes
+-- a rule makes something that isn't added to what has ended; its spelling is the rule's own bytes, and then the rule's
+-- parts
 pub record MakesPlain (S : Sort) (own : ℕ) (at : At) (h : Pressing) (r : Found Value State) : Type 0 where
   pub thing : S.thing
   pub values : r.value ∷ [] ≡ S.values thing
@@ -145,7 +147,7 @@ pub record MakesText (S : Sort) (own : ℕ) (at : At) (h : Pressing) (r : Found 
   pub old_is : ◌≡◌ {A = Pressing} h (text old)
   pub ended : r.state.ended ≡ at.ended
 
--- a rule makes a path, a type or a constant, which ends there
+-- a rule makes a path, a type or a constant, which is added to what has ended
 pub record MakesTree (S : Sort) (own few_parts : ℕ) (at : At) (h : Pressing) (r : Found Value State) : Type 0 where
   pub thing : S.thing
   pub values : r.value ∷ [] ≡ S.values thing
@@ -158,7 +160,8 @@ pub record MakesTree (S : Sort) (own few_parts : ℕ) (at : At) (h : Pressing) (
   pub big : is_compared tree ≡ true → 2 ≤ own + few_parts
   pub ended : r.state.ended ≡ record { place = at.place; value = r.value } ∷ at.ended
 
--- a rule makes a path, a type or a constant that has ended already, and ends once more
+-- a rule makes a path, a type or a constant whose tree is already among those that have ended, and adds it to them once
+-- more
 pub record MakesAgain (S : Sort) (own few_parts : ℕ) (at : At) (h : Pressing) (r : Found Value State) : Type 0 where
   pub thing : S.thing
   pub values : r.value ∷ [] ≡ S.values thing

@@ -196,7 +196,7 @@ anything : {A : Type 0} (m : Result A Refusal) → Holds (λ x. Unit {0}) m
 anything (Ok x) = tt
 anything (Err e) = tt
 
--- the suffix at the end of a symbol is read as at most as many bytes as spell it
+-- the suffix that is read at the end of a symbol has at most as many bytes as its spelling
 suffix-read : (s : List ℕ) (place : ℕ) (tree : Shape) (state : State) → length s ≡ place + length (spell tree) → IsTree v0_table (Kind 3) tree
     → Holds (λ f. IsSuffix (length (spell tree)) f.value) (unfold_tree (v0 s) 0 place tree state)
 suffix-read s place empty state long tree = tt

@@ -1,5 +1,5 @@
--- The pressed spelling of what a symbol denotes: the tree in its order. A path, type or constant that equals an earlier
--- one is a reference to the first one that it equals, and everything else is spelled out.
+-- The pressed spelling of what a symbol denotes: the parts of its tree in order. A path, type or constant that equals an earlier one is a
+-- reference to the first one that it equals, except for basic types and the unknown constant. Everything else is spelled out.
 use Rattle.std.specs.Prelude.{ℕ, zero, suc, ◌-◌, List, [], ◌∷◌, ◌++◌, length, Bool, true, false, if◌then◌else◌, ◌||◌, ◌==◌, Option, Some, None}
 use Rattle.sym_core.specs.Number.{is_decimal_digit}
 use Rattle.sym_spell.specs.Pressing as spell
@@ -58,7 +58,7 @@ mark_if false byte = nothing
 abbrev pub press_name : tree.Name → Pressing
 press_name name = mark_if name.punycode 117 and counted name.bytes
 
--- a letter and a number that is one less, or nothing for 0; so the number 1 has no digit
+-- nothing for 0; for any other number, the letter and the number less one, so the number 1 has no digit
 abbrev pub count_of : (byte : ℕ) → ℕ → Pressing
 count_of byte zero = nothing
 count_of byte (suc n) = letter byte and number62 n
@@ -97,7 +97,7 @@ first_place own [] = None
 first_place own (c ∷ cs) =
     elim (first_place own cs) [ Some place ↦ Some place | None ↦ elim (same_tree own c.own) [ true ↦ Some c.place | false ↦ None ] ]
 
--- a reference to a place, which is counted from the first byte after `_R`
+-- a reference to a place: B and the place less two, since a reference counts from the first byte after `_R`
 abbrev pub reference : (place : ℕ) → Pressing
 reference place = letter 66 and number62 (place - 2)
 

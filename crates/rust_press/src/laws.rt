@@ -1,4 +1,4 @@
-// What holds of pressed spellings, whatever spelling they were read from.
+// What holds of pressed spellings, whatever spelling the symbol was read from.
 ghost use Rattle.rust_press.specs.PressLaws.{PressedIsRead, PressedOnce};
 ghost use Rattle.rust_press.specs.Apart.{ComponentsAreApart};
 ghost use Rattle.rust_press.specs.Short.{PressedIsShort};
@@ -11,14 +11,14 @@ pub fn pressed_is_read()
     ensures { PressedIsRead }
 {}
 
-/// If a pressed spelling is read as a tree, this tree is pressed to the same bytes, if they are at most 2^64 - 1.
+/// If a pressed spelling of at most 2^64 - 1 bytes is read as a tree, this tree is pressed to the same bytes.
 pub fn pressed_once()
     ensures { PressedOnce }
 {}
 
 /// Each path, type or constant that a symbol may have is read as itself where it is pressed, after
 /// any spelled beginning: the components of the beginning have ended by then. The laws of whole
-/// symbols follow from this.
+/// symbols follow from this law.
 pub fn subtrees_are_read()
     ensures paths { PathsAreRead }
     ensures types { TypesAreRead }
@@ -30,7 +30,7 @@ pub fn components_are_apart()
     ensures { ComponentsAreApart }
 {}
 
-/// The tree that a fitting symbol is read as has at most four pressed bytes for each byte of the symbol.
+/// If a fitting symbol is read as a tree, the tree has at most four pressed bytes for each byte of the symbol.
 pub fn pressed_is_short()
     ensures { PressedIsShort }
 {}

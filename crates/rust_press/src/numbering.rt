@@ -12,7 +12,7 @@ use std::alloc::Global;
 use sym_core::Refusal;
 use sym_spell::{Firsts, Marked, Numbers, text_mark};
 
-/// The key of a node: what nodes with equal trees have in common. It has `count` parts, each as the first node that equals
+/// The key of a node: what nodes with equal trees have in common. It gives each of the node's `count` parts as the first node that equals
 /// the part.
 #[derive(Clone, Copy, PartialEq, Eq, PartialOrd, Ord)]
 struct Key<'a> {
@@ -56,7 +56,7 @@ fn part_number(symbol: &Symbol, firsts: &[u32], node: u32, count: u32, k: u32) -
     }
 }
 
-/// The key of a node, by the first node that equals each node before it.
+/// The key of a node, given the first equal node of each node before it.
 fn key_of<'a>(symbol: &'a Symbol, firsts: &[u32], node: u32) -> Key<'a>
     requires node { node < length symbol.now.table.nodes }
     requires before { length firsts.now ≡ node }

@@ -1,4 +1,4 @@
-// A Rust symbol spelled again, each repeated component a reference to the first one.
+// Rust symbols are spelled again, with each repeated component as a reference to the first one.
 #![tactic(auto)]
 
 ghost use Rattle.std.specs.Prelude.{◌≡◌, ℕ, ◌<◌, ◌++◌, length, slice_get, Some, None, OnOk, IfOk, IfErr};

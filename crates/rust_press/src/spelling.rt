@@ -32,7 +32,7 @@ fn push_number(value: u64, out: &mut Vec<u8>) -> Result<(), Refusal>
     Ok(())
 }
 
-/// A letter and a number in base 62 that is one less, or nothing for 0.
+/// A letter, and the value less one as a number in base 62; nothing for the value 0.
 #[tactic(auto, unfolding(crate::specs::Spelled::count_bytes))]
 fn push_count(letter: u8, value: u64, out: &mut Vec<u8>) -> Result<(), Refusal>
     ensures count { OnOk result (out.new.items ≡ out.old.items ++ count_bytes letter value) }
@@ -85,7 +85,7 @@ fn push_name(punycode: bool, name: &[u8], out: &mut Vec<u8>) -> Result<(), Refus
     Ok(())
 }
 
-/// The digits of an integer. Zero has none in its node, and is written as `0`.
+/// The digits of an integer. Zero has no digits in its node, and is written as `0`.
 #[tactic(auto, unfolding(crate::specs::Spelled::integer_bytes))]
 fn push_integer(digits: &[u8], out: &mut Vec<u8>) -> Result<(), Refusal>
     ensures integer { OnOk result (out.new.items ≡ out.old.items ++ integer_bytes digits.now) }

@@ -13,7 +13,8 @@ use Rattle.rust_grammar.specs.Unfold.{At, as_path, as_type, ends_path, ends_type
 use Rattle.rust_references.specs.Named.{NamesPath, NamesType}
 use Rattle.rust_references.specs.declared.targets.Target.{Target}
 
--- if a property holds of a node when a test passes, and of a refusal when it fails, it holds of the test's result
+-- if a property holds of a node when a test passes, and of a refusal when the test fails, the property holds of the
+-- test's result
 by_test : (P : Result ℕ Refusal → Type 0) (test : Bool) (node : ℕ) (e : Refusal) (result : Result ℕ Refusal) → result ≡ (if test then Ok node else Err e)
     → (test ≡ true → P (Ok node)) → (test ≡ false → P (Err e)) → P result
 by_test P true node e result is stands refused = subst P (sym is) (stands refl)

@@ -1,5 +1,5 @@
-//! What a Rust symbol's back references name where they occur, over its nodes: what ended at the named place, and whether that
-//! is allowed under this many bound lifetimes (RFC 2603).
+//! Which node each back reference of a Rust symbol names: the node that ended at the named place, if it needs no more lifetimes than are
+//! bound (RFC 2603).
 #![tactic(auto)]
 
 pub mod named;

@@ -36,7 +36,7 @@ pub fn path_named(nodes: &Nodes, found: Target, place: u32, bound: u64) -> Resul
 ///
 /// # Errors
 ///
-/// `BadReference` at the reference's place, if no type or path has ended at the named place or if it needs more lifetimes.
+/// `BadReference` at the reference's place, if no type or path has ended at the named place, or if this type or path needs more lifetimes.
 pub fn type_named(nodes: &Nodes, found: Target, place: u32, bound: u64) -> Result<u32, Refusal>
     ensures names { (at : At) (known : Option Value) → at.place ≡ place → at.bound ≡ bound → IsTable at.symbol nodes.now
         → IsNoted (trees at.symbol nodes.now.nodes) found known → NamesType (trees at.symbol nodes.now.nodes) found at known result }

@@ -27,10 +27,10 @@ const ROUNDS_A_BYTE: usize = 8;
 /// Writes the text of a symbol in full, if the short way reads the symbol and the text costs at most a limit, and answers
 /// whether it did. Where it didn't, nothing is known of the symbol, and the lists are empty.
 ///
-/// In any case at most eight bytes of text for each byte of the symbol and a kilobyte are written,
-/// as many of hidden text, and at most eight steps for each byte are taken. No list has more
-/// entries than the symbol has bytes: each step begins with lists that have room for no more. The
-/// lists only grow in a call.
+/// In any case the text has at most eight bytes for each byte of the symbol and a kilobyte in
+/// addition, and so has the hidden text. At most eight steps for each byte are taken. No list has
+/// more entries than the symbol has bytes: each step begins with lists that have room for no more.
+/// The lists only grow in a call.
 pub fn write(writer: &mut Writer, s: &[u8], limit: u32) -> bool
     requires { FitsSymbol s.now }
     ensures answer { result ≡ true → IsAnswer details.Full s.now limit (Ok writer.new.lists.text.list.items) }
@@ -102,7 +102,8 @@ fn run<S: Showing>(writer: &mut Writer, s: &[u8], limit: u32) -> bool
     false
 }
 
-/// Leaves what is shown of the written text, if the limit is enough for all of that text.
+/// Removes from the written text what isn't to be shown, if the limit is enough for all of that
+/// text.
 #[inline(always)]
 fn end<S: Showing>(writer: &mut Writer, s: &[u8], limit: u32) -> bool
     requires { IsWriting S.IS_BRIEF s.now writer.old.lists steps.Ended }

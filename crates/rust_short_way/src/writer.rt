@@ -1,4 +1,4 @@
-// What writes symbols, and counts its steps.
+// The writer of symbols, which counts its steps.
 
 ghost use Rattle.std.specs.Prelude.{◌≡◌, ℕ, ◌≤◌, ◌+◌, ◌*◌, ◌%◌, ◌^◌, List, length};
 ghost use Rattle.std.specs.Option.{IfSome, OnSome};

@@ -1,4 +1,4 @@
--- Walks over paths and arguments, one step and the end.
+-- Walks over paths and arguments: one step, and the end.
 use Rattle.std.proofs.Common.{◌≡◌, ℕ, zero, suc, ◌+◌, ◌-◌, ◌<◌, ◌≤◌, List, [], ◌∷◌, ◌++◌, length, true, false, Option, Some, None, refl, sym, ap, ◌∙◌, arith, append_assoc, append-nil}
 use Rattle.std.proofs.lemmas.Bool.{cond-true, cond-false}
 use Rattle.std.specs.Prelude.{nat_lt}
@@ -10,7 +10,7 @@ use Rattle.rust_spelled.specs.Arguments.{arguments_from, arguments_of, is_generi
 
 -- ## Lists that are found in turn
 
--- once more is found, what is left to be found is the rest
+-- after more was found, the rest is what is left to be found
 pub found-more : {X : Type 0} (old new more rest whole : List X) → new ≡ old ++ more → old ++ (more ++ rest) ≡ whole → new ++ rest ≡ whole
 found-more old new more rest whole is all = ap (λ found. found ++ rest) is ∙ (append_assoc old more rest ∙ all)
 

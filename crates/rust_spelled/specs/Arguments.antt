@@ -23,7 +23,8 @@ arguments_from (suc most) rows argument end =
 unfoldable pub arguments_of : List Row → (path : ℕ) → List Span
 arguments_of rows path = arguments_from (length rows) rows (behind rows (path + 1)) (behind rows path)
 
--- the list of a generic path's arguments: the first one's row has all of them. An empty list is where the path ends.
+-- the list of a generic path's arguments: the row of the first argument has all of them. An empty list is where the
+-- path ends.
 unfoldable pub list_of : List Row → (path : ℕ) → Span
 list_of rows path =
     if nat_lt (behind rows (path + 1)) (behind rows path)

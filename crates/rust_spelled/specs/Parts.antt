@@ -15,7 +15,7 @@ spelled r bytes = record { role = r; span = bytes }
 
 -- ## The name
 
--- the name that a path adds: its parent is the scope, and what follows that is the base
+-- the name that a path adds: the path's parent is the scope, and what follows the parent is the base
 unfoldable pub name_spelled : List Row → (named : Option ℕ) → List Spelled
 name_spelled rows None = []
 name_spelled rows (Some path) =
@@ -55,7 +55,8 @@ unfoldable pub suffix_spelled : Option Production → List Row → (number : ℕ
 suffix_spelled (Some rules.Suffix) rows number = spelled role.Suffix (span_at rows number) ∷ []
 suffix_spelled _ rows number = []
 
--- the path of the instantiating crate, after which its rule has one more symbol, and the suffix; either may be missing
+-- the path of the instantiating crate, whose row has one more symbol of its rule after it, and the suffix; either may
+-- be missing
 unfoldable pub rest_spelled : List Row → (number : ℕ) → List Spelled
 rest_spelled rows number =
     if (row_at rows number).after == 1

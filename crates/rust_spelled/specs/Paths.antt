@@ -27,8 +27,8 @@ paths_of rows = paths_from (length rows) rows (Some 1)
 unfoldable pub root_of : List ℕ → ℕ
 root_of paths = unwrap_or (slice_get paths (length paths - 1)) 0
 
--- The name of a path is shown unless its namespace is a lower-case letter and it has no bytes. The namespace is at the row after
--- the path's, and the name's bytes are the last row of the path's subtree.
+-- The name of a path is shown unless the path's namespace is a lower-case letter and the name has no bytes. The namespace is at
+-- the row after the path's, and the name's bytes are the last row of the path's subtree.
 unfoldable pub is_shown : (symbol : List ℕ) → List Row → (path : ℕ) → Bool
 is_shown symbol rows path =
     let name = row_at rows ((row_at rows path).end - 1) in

@@ -19,7 +19,7 @@ row_at rows number = unwrap_or (slice_get rows number) no_row
 abbrev pub production_at : List Row → (number : ℕ) → Option Production
 production_at rows number = production_of (row_at rows number).rule
 
--- the row behind those of a row's subtree
+-- the row after those of a row's subtree
 abbrev pub behind : List Row → (number : ℕ) → ℕ
 behind rows number = (row_at rows number).end
 

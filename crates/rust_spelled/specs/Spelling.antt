@@ -12,12 +12,12 @@ use Rattle.rust_spelled.specs.Paths.{paths_of, root_of, first_named}
 use Rattle.rust_spelled.specs.Parts.{name_spelled, root_spelled, rest_spelled}
 use Rattle.rust_spelled.specs.Arguments.{generics, list_of, arguments_of, items_of}
 
--- what spells the parts in none of the lists: the reference that the name begins with, or the symbol's path
+-- what spells the parts that are in none of the lists: the reference that the name begins with, or the symbol's path
 unfoldable pub others_by : Option Production → List Row → (root : ℕ) → Span
 others_by (Some rules.PathReference) rows root = span_at rows root
 others_by _ rows root = span_at rows 1
 
--- the parts that come once, of a name with these paths
+-- the parts that come once in a name with these paths
 unfoldable pub spans_of : (symbol : List ℕ) → List Row → (paths : List ℕ) → List Spelled
 spans_of symbol rows paths =
     name_spelled rows (first_named symbol rows paths)

@@ -16,7 +16,7 @@ use sym_parts::{Item, Span};
 use sym_room::push_within;
 use sym_shape::Row;
 
-/// Lists of arguments: of each list its bytes and its item, and the arguments of all lists.
+/// Lists of arguments: the bytes and the item of each list, and the arguments of all lists.
 #[derive(Drop)]
 pub(crate) struct Lists {
     pub(crate) lists: Vec<Span>,
@@ -53,7 +53,7 @@ fn list_of(rows: &[Row], path: usize) -> Span
 ///
 /// # Errors
 ///
-/// `Memory` where there are 2^32 or more.
+/// `Memory` where the list has 2^32 elements or more.
 fn count_of(elements: &[Span]) -> Result<u32, Refusal>
     ensures count { IfOk result (λ count. count ≡ length elements.now) }
     ensures refusals { IfErr result (λ refusal. refusal ≡ Refusal.Memory) }

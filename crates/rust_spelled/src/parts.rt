@@ -26,7 +26,8 @@ pub(crate) fn push_part(parts: &mut Vec<Spelled>, role: Role, span: Span) -> Res
     Ok(())
 }
 
-/// Adds the scope and the base of a path that adds a name: its parent, and what follows that.
+/// Adds the scope and the base of a path that adds a name: the path's parent, and what follows the
+/// parent.
 ///
 /// # Errors
 ///

@@ -69,7 +69,7 @@ pub(crate) fn root_of(paths: &[usize]) -> usize
     }
 }
 
-/// Whether a path's name is shown: it has bytes, or its namespace is no lower-case letter.
+/// Whether a path's name is shown: it has bytes, or its namespace isn't a lower-case letter.
 #[tactic(auto, unfolding(crate::specs::Paths::is_shown))]
 fn is_shown(symbol: &[u8], rows: &[Row], path: usize) -> bool
     requires { path < length rows.now }

@@ -96,7 +96,7 @@ pub(crate) fn push_root(parts: &mut Vec<Spelled>, rows: &[Row], root: usize) -> 
     }
 }
 
-/// What spells the parts in none of the lists: the reference that a name begins with, or the symbol's path.
+/// The bytes that spell the parts that are in none of the lists: the reference that a name begins with, or the symbol's path.
 #[tactic(auto, unfolding(crate::specs::Spelling::others_by))]
 pub(crate) fn others(rows: &[Row], root: usize) -> Span
     ensures { result ≡ others_by (production_at rows.now root) rows.now root }

@@ -36,7 +36,7 @@ pub(crate) fn production_at(rows: &[Row], number: usize) -> Option<Production>
     numbered(row_at(rows, number).rule)
 }
 
-/// The number of the row behind those of a row's subtree.
+/// The number of the row after those of a row's subtree.
 pub(crate) fn behind(rows: &[Row], number: usize) -> usize
     ensures { result ≡ behind rows.now number }
 {

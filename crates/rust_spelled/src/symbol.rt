@@ -16,7 +16,7 @@ use sym_core::Refusal;
 use sym_parts::{Spelled, Spelling};
 use sym_shape::Row;
 
-/// The parts that come once, of a name with these paths.
+/// The parts that come once in a name with these paths.
 ///
 /// # Errors
 ///
@@ -41,9 +41,9 @@ fn spans_of(
 
 /// Which bytes of a v0 symbol spell which part of its text, by the rows of its shape: places count from the symbol's first byte.
 ///
-/// A name's scope is its parent, and its base is what follows that (RFC 2603, `<path>`). A path that shows no name is passed over:
-/// its parent is the name's path. Lists of generic arguments are in the order of the symbol's `I`s, and so are their arguments. The
-/// crate that an instantiation is in (`<instantiating-crate>`) is among the parts, but isn't in the text.
+/// A name's scope is its parent, and its base is what follows the parent (RFC 2603, `<path>`). A path that shows no name is passed over:
+/// its parent is the name's path. Lists of generic arguments are in the order of the symbol's `I`s, and so are their arguments. The crate
+/// that an instantiation is in (`<instantiating-crate>`) is among the parts, but isn't in the text.
 ///
 /// # Errors
 ///

@@ -27,7 +27,7 @@ unfolding hexadecimal_before
 before-none zero later = refl
 before-none (suc k) later = refl
 
--- the digits of a number are those of its front, if that isn't zero, and then its other digits
+-- the digits of a number are those of its front, if the front isn't zero, and then its other digits
 digits-behind : (v : ℕ) (ds later : List ℕ) (k : ℕ) → 0 < v → AreDigits Hex ds
     → hexadecimal_before (k + length ds) (value_onto Hex v ds) later ≡ hexadecimal_before k v (ds ++ later)
 digits-behind v [] later k some are = let none : k + 0 ≡ k = omega arith in ap (λ n. hexadecimal_before n v later) none

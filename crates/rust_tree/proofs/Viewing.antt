@@ -263,7 +263,7 @@ module _ (s text : List ℕ) (all : List Tree) (bare : HasNoPathType all) where
   symbol-seen whole (Some other) is h =
       rw is (two-parts s all _ _ _ whole.suffix whole.path other _ _ h.2 (path-part all whole.path h.0) (path-part all other (rw is at h.1)))
 
-  -- likewise for a node that equals one of the cases that the code distinguishes
+  -- the view of a node that equals one of the cases that the code distinguishes shows the fields of the node's tree
   module _ (seen : NodeView) where
     pub path-by : (path other : Path) → path ≡ other → seen ≡ view_of_path other → HasPathParts s text all path → IsSeen s all seen (fields_of (of_path (path_of s all path)))
     path-by path other e is h = subst (λ v. IsSeen s all v (fields_of (of_path (path_of s all path)))) (ap view_of_path e ∙ sym is) (path-seen path h)

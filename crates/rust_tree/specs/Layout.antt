@@ -45,7 +45,7 @@ binder_in (tree.function binder is_unsafe abi parameters returned) = binder
 binder_in (tree.dyn binder _ lifetime) = binder
 binder_in _ = 0
 
--- a function's type without its binder; the bound lifetimes include its own
+-- a function's type without its binder; the bound lifetimes include those of the binder
 abbrev pub signature_in : Context → tree.Ty → Unshared
 signature_in c (tree.function binder is_unsafe abi parameters returned) =
     signature_parts is_unsafe abi (types_from c.detail c.bound [] parameters) (is_unit returned) (type_parts c.detail c.bound returned)

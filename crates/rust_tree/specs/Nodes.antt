@@ -22,7 +22,7 @@ use Rattle.rust_tree.specs.declared.node.Whole.{Whole}
 use Rattle.rust_tree.specs.declared.node.Entry.{Entry}
 
 -- a table: its nodes, each with the number of lifetimes that it needs, and the text list; how many nodes and bytes fit
--- without taking memory; and the most nodes that there were when it was cleared
+-- without taking memory; and the most nodes that the table had when it was cleared
 pub record Table : Type 0 where
   pub nodes : List Entry
   pub text : List ℕ

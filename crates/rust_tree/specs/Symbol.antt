@@ -17,8 +17,8 @@ pub data Abi : Type 0 where
   c_abi : Abi
   named_abi : Name → Abi
 
--- A lifetime is counted among the bound lifetimes around it, the innermost being 1; it is 0 where it is erased. A binder is the
--- number of lifetimes that it binds, 0 where there is none. A basic type and the type of an integer are their letters.
+-- A lifetime is its number among the bound lifetimes around it, the innermost being 1, or 0 if it is erased. A binder is the
+-- number of lifetimes that it binds, or 0 if there is none. A basic type and the type of an integer are their letters.
 mutual
   pub data Path : Type 0 where
     crate_root : Identifier → Path

@@ -34,7 +34,8 @@ has_letter production = (production == NESTED) || ((production == PUNYCODE_NESTE
 abbrev pub IsLettered : Node → Type 0
 IsLettered view = has_letter view.production ≡ true → get_or view.numbers 0 0 < 256
 
--- Two views have the same production and numbers, texts of the same bytes, and equally many parts; the parts are equal in turn.
+-- Two views have the same production and numbers, texts of the same bytes, and equally many parts; the parts are equal one by
+-- one.
 pub record AreAlike (s t : List ℕ) (first second : Node) (one other : Tree) : Type 0 where
   pub production : first.production ≡ second.production
   pub numbers : first.numbers ≡ second.numbers

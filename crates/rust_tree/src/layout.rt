@@ -53,7 +53,7 @@ impl Layout for Symbol {
         self.add_parts(stack, item);
     }
 
-    /// No item is noted before the text is dear, since parts of a Rust symbol that come again are
+    /// No item is noted before the text becomes costly, since repeated parts of a Rust symbol are
     /// mostly short.
     #[inline(always)]
     fn is_noted(&self, _item: Item<Context>) -> bool

@@ -18,13 +18,12 @@ use std::marker::Model;
 use sym_core::{Refusal, Span};
 use sym_room::make_room;
 
-/// The nodes of a symbol, each after its parts, and the text list, in which decoded names and decimals are.
+/// The nodes of a symbol, each after its parts, and the text list, which has the decoded names and the decimals.
 #[derive(Drop)]
 pub struct Nodes {
     entries: Vec<Entry>,
     text: Vec<u8>,
-    // The most nodes that there were when the table was cleared. This number and that of the present
-    // nodes bound the memory of the nodes.
+    // The most nodes that the table had when it was cleared. This number and the number of present nodes bound the memory of the nodes.
     most: usize,
 }
 
@@ -58,7 +57,7 @@ fn grow(entries: &mut Vec<Entry>) -> Result<(), AllocError>
     make_room(entries, 1)
 }
 
-/// Makes room for one more node, where there is none.
+/// Makes room for one more node, if there is no room left.
 ///
 /// # Errors
 ///
@@ -321,7 +320,8 @@ impl Nodes {
         Ok(number)
     }
 
-    /// Adds to the text list what a name in Punycode prints, and answers its span.
+    /// Adds what a name in Punycode prints to the text list, and answers the span of the added
+    /// text.
     ///
     /// # Errors
     ///
@@ -348,7 +348,8 @@ impl Nodes {
         Ok(span)
     }
 
-    /// Adds to the text list a decimal, after a minus where one is requested, and answers its span.
+    /// Adds a decimal to the text list, after a minus if one is requested, and answers the span of
+    /// the added text.
     ///
     /// # Errors
     ///

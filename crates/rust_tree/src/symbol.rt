@@ -50,7 +50,7 @@ impl Symbol {
         }
     }
 
-    /// The lists of a symbol that is given up: its bytes, and its nodes with the text list. It takes no memory.
+    /// The lists of a symbol that is given up: its bytes, and its nodes with the text list. The call takes no memory.
     pub fn into_lists(self) -> (Vec<u8>, Nodes)
         ensures bytes { result.0.items ≡ self.bytes }
         ensures nodes { result.1 ≡ self.table }
@@ -93,8 +93,7 @@ impl Symbol {
         *self.bytes.allocator()
     }
 
-    /// The bytes of a span within the symbol. Each text of a node's view is a span within it. It takes
-    /// no memory.
+    /// The bytes of a span within the symbol. Each text of a node's view is such a span. The call takes no memory.
     pub fn bytes_of(&self, span: Span) -> &[u8]
         requires { IsWithin span self.now.bytes }
         ensures { result.now ≡ bytes_at self.now.bytes span }

@@ -86,7 +86,7 @@ pub const UNDERSCORE: u16 = 38;
 
 pub const BLANK_LEFT: u16 = 39;
 
-/// The text of a number. The number of a basic type's text is its letter.
+/// The text of a number. The number of a basic type's text is the type's letter.
 #[tactic(auto, unfolding(crate::specs::Texts::fixed_text))]
 #[inline(always)]
 pub fn fixed_text(number: u16) -> &'static [u8]

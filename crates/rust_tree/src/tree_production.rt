@@ -1,7 +1,7 @@
 // The productions of trees, and which numbers, texts and parts the view of a node has for each.
 //
-// What a production doesn't mention is 0 or no bytes; no production has a second text. A type that is a part is the node of a
-// type or of a path. The text of a name is what the symbol spells and not what it prints.
+// Numbers that a production doesn't mention are 0, and texts that it doesn't mention have no bytes; no production has a second text. A type
+// that is a part is the node of a type or of a path. The text of a name is what the symbol spells and not what the name prints.
 
 /// A crate. Numbers: its disambiguator, 0 where it has none. Texts: its name, which isn't in Punycode. Parts: none.
 pub const CRATE_ROOT: u16 = 0;

@@ -161,7 +161,7 @@ impl Symbol {
         self.push_text(parts, number);
     }
 
-    /// Adds a function's type: its binder, and its signature under it.
+    /// Adds a function's type: its binder, and under the binder its signature.
     fn push_function<S: PartList<Context>>(
         &self,
         parts: &mut S,
@@ -183,7 +183,7 @@ impl Symbol {
         self.push_binder(parts, node, binder, ctx);
     }
 
-    /// Adds a `dyn` type: its binder, its bounds under it, and its lifetime.
+    /// Adds a `dyn` type: its binder, under the binder its bounds, and then its lifetime.
     fn push_dyn<S: PartList<Context>>(
         &self,
         parts: &mut S,

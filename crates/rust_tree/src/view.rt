@@ -307,7 +307,7 @@ impl Symbol {
         view_of_node(self.stored(node))
     }
 
-    /// The view of a node, which is below `counts().nodes`. It takes no memory.
+    /// The view of a node, whose number is below `counts().nodes`. The call takes no memory.
     ///
     /// A node's tree is made of its production, the numbers, the bytes of the texts and the trees of the parts. Two nodes
     /// have equal trees exactly where all of these are equal.
@@ -322,8 +322,8 @@ impl Symbol {
         self.view_at(node).node
     }
 
-    /// A part of a node, counted from 0: an earlier node. The node is below `counts().nodes`, and the part below its
-    /// view's `parts`. It takes no memory.
+    /// A part of a node, which is an earlier node; parts are counted from 0. The node is below `counts().nodes`, and the part is below the
+    /// `parts` of the node's view. The call takes no memory.
     pub fn part(&self, node: u32, k: u32) -> u32
         requires node { node < length self.now.table.nodes }
         requires part { k < length (fields_at self.now node).parts }

@@ -78,7 +78,7 @@ made_gives table at rules.BoundsMore ps vs other within fits lists are = more_bo
 made_gives table at rules.Binding ps vs other within fits lists are = binding_gives at.symbol table at ps vs lists are
 made_gives table at rules.BoolConstant ps vs other within fits lists are = bool_constant_gives at.symbol table at ps vs lists are
 
--- a production that makes a part is no reference
+-- a production that makes a part isn't a reference
 pub makes_no_reference : (production : Production) → makes_part production ≡ true → is_reference production ≡ false
 makes_no_reference rules.PathReference makes = absurd (false≢true makes)
 makes_no_reference rules.TypeReference makes = absurd (false≢true makes)

@@ -171,9 +171,9 @@ rows =
     prints "_RINvC3foo3barDNtB2_1Ap1xhp1yeEL_E" (codes "foo::bar::<dyn foo::A<x = u8, y = str>>") 53 ∷
     -- dyn outside
     refers_badly Detail.Full "_RINvC3foo3barDG_NtB2_1AEL0_E" 25 ∷
-    -- dyn of none outside
+    -- dyn without bounds, and its lifetime isn't bound outside
     refers_badly Detail.Full "_RINvC3foo3barDG_EL0_E" 18 ∷
-    -- dyn of none around
+    -- dyn without bounds, and its lifetime is bound around it
     prints "_RINvC3foo3barFG_DG_EL0_EuE" (codes "foo::bar::<for<'a> fn(dyn for<'b>  + 'a)>") 52 ∷
     -- dyn bound outside
     prints "_RINvC3foo3barFG_DNtB2_1AEL0_EuE" (codes "foo::bar::<for<'a> fn(dyn foo::A + 'a)>") 53 ∷

@@ -10,7 +10,7 @@ use Rattle.rust_grammar.specs.Unfold.{At, Meaning, meaning, Part as Next, greate
 use Rattle.rust_v0.specs.CodeSemantics as semantics
 use Rattle.rust_v0.proofs.OperandLemmas.{letter_agrees, name_agrees, identifier_agrees, path_agrees, type_node_agrees, constant_agrees, lifetime_agrees, truth_agrees, abi_value_agrees, types_agrees, number_agrees, integer_agrees, disambiguator_agrees, binder_agrees, some_lifetime_agrees, unsafe_mark_agrees, minus_agrees, abi_agrees, arguments_agrees, bounds_agrees, bindings_agrees, suffix_agrees, other_path_agrees}
 
--- readings that agree still agree with what follows them, if that agrees
+-- readings that agree, followed by others that agree, agree as a whole
 lift : {X A : Type 0} (g : Ground) (s : List ℕ) (table : Table) (at : At) (R : X → A → Type 0) (r : Result (X × List Part) Refusal) (read : Next A) → Agree g R r read
     → (k : X × List Part → Result Made Refusal) (m : A × List Value → Meaning)
     → ((found : X × List Part) (a : A) (values : List Value) → R found.0 a → AreAll (IsPart g) found.1 values → MadeGives s table at (k found) (m (a, values)))
@@ -287,7 +287,8 @@ counted_agrees at (Some m) n (same, below) = rw same (at_most (nat_lt n greatest
     at_most true less = rw (le-leb (n + 1) greatest_u64 (omega (arith, ltb-true n greatest_u64 less))) refl
     at_most false more = rw (lt-leb (n + 1) greatest_u64 (omega (arith, ltb-false n greatest_u64 more))) refl
 
--- the count that a number gives, and what follows the count, agree with the reading, if the number and what follows do
+-- if a number and what follows it agree with the reading, so do the count that the number gives and what follows the
+-- count
 lift_count : (s : List ℕ) (table : Table) (at : At) (found : Option ℕ) (n : ℕ) → IsNumber found n
     → (k : ℕ → Result Made Refusal) (m : ℕ → Meaning) → ((count : ℕ) → MadeGives s table at (k count) (m count))
     → MadeGives s table at (semantics.counted at.place found >>= k) (disambiguator_of at n >>= m)

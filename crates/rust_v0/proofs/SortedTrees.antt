@@ -112,7 +112,7 @@ whole_rule s rule taken parts takes are =
     ended (Ok f) option = whole_symbol f.value (option is_whole refl)
     ended (Err e) bad = bad
 
--- what a well shaped symbol's shape denotes is refused only for a bad token
+-- the reading of a well shaped symbol's shape is refused only for a bad token
 pub well_shaped_refused : (shape : Tree) → IsTree v0_table (Kind 0) shape → IfErr (unfolded shape) IsBadToken
 well_shaped_refused (branch rule taken parts) (takes, are) = whole_rule (spell (branch rule taken parts)) rule taken parts takes are
 well_shaped_refused empty is = absurd (false≢true is)

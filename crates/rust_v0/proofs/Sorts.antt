@@ -1,4 +1,4 @@
--- The sorts of each rule's parts, which are those that its production requires.
+-- The sorts of each rule's parts are those that the rule's production requires.
 use Rattle.rust_v0.proofs.Basics.{◌≡◌, refl, sym, ap, ◌∙◌, subst, ℕ, zero, suc, List, [], ◌∷◌, ◌++◌, map, get_or, Bool, true, false, ◌&&◌, ◌||◌, eqb, inl, inr, Option, Some, None, if◌then◌else◌, list_all, false≢true, and_parts, or_cases, eqb-true, Rule, Sym, Kind, Name, Number, Byte, KindSheet, choice_at, symbols_of, Production, production_of, v0_table, kinds, no_kind, Value}
 use Rattle.rust_grammar.specs.declared.production.Production.TheVariants as rules
 use Rattle.rust_grammar.specs.Value as value

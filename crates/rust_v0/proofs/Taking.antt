@@ -1,4 +1,4 @@
--- Which tokens the rules of the table take, and what these are as parts.
+-- Which tokens the rules of the table take, and what the tokens are as parts.
 use Rattle.rust_v0.proofs.Basics.{◌≡◌, refl, ap, sym, ◌∙◌, ℕ, ◌+◌, ◌≤◌, suc, List, [], ◌∷◌, length, length-append, Bool, true, false, ◌&&◌, Option, Some, None, Result, arith, subst, false≢true, and_parts, AreDigitsOf, NumberKind, Span, Refusal, Grows, Table as TableOf, within-grown, bytes-grown, AreAll, Fails, skipped, skipped_from, Stands, joined, values_in, Open, Rule, Sym, Token, symbols_of, Forest, nothing, grown, empty, fixed, token, branch, spell_all, AreTrees, IsTree, Part, Production, production_of, v0_table, kinds, sort_of, value_as, IsOwn, HasZero, minus_before, token_of, is_minus, Value, State, Ground, IsPart}
 use Rattle.sym_core.specs.Token.{AreNameBytes}
 use Rattle.sym_core.specs.declared.NameClass.TheVariants as names
@@ -186,7 +186,7 @@ minus_is g (p ∷ []) (value.minus_mark ∷ []) are = absurd are.0
 minus_is g (p ∷ []) (v ∷ []) are = refl
 minus_is g (p ∷ q ∷ ps) (v ∷ w ∷ vs) are = two_parts p q ps ∙ sym (two_values v w vs)
 
--- the code takes a token for what the reading takes it for
+-- the code takes a token in the same sense as the reading does
 pub own_in_code : (g : Ground) (o : Option Production) (sort : TokenSort) (slice ps : List Part) (known : List Value) (bytes own : List ℕ) (code_place place at : ℕ)
     → slice ≡ ps → sort ≡ sort_of o → bytes ≡ own → code_place ≡ place → AreAll (IsPart g) ps known → IsOwn (sort_of o) own (length known) place at
     → IsOwn sort bytes (length slice) code_place at

@@ -1,4 +1,4 @@
--- What a rule makes: a part, or a node that is to be added; and that this is the meaning of the rule.
+-- What a rule makes (a part, or a node that is to be added), and the claim that this is the meaning of the rule.
 use Rattle.std.specs.Prelude.{◌≡◌, ℕ, List, Result, Ok, Err}
 use Rattle.sym_core.specs.declared.refusal.Refusal.{Refusal}
 use Rattle.rust_tree.specs.Symbol as tree

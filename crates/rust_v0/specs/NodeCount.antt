@@ -11,8 +11,8 @@ use Rattle.rust_grammar.specs.Productions.{production_of, is_reference, makes_pa
 use Rattle.rust_grammar.specs.Value.{Value, State}
 use Rattle.rust_v0.specs.RustNodes.{v0_view, first_nodes}
 
--- A production makes one node where it closes. It makes none if it is a reference, which names an existing node, or a part of
--- another production's node.
+-- A production makes one node where it closes. It makes none if it is a reference, which names an existing node, or if it
+-- makes a part of another production's node.
 unfoldable pub nodes_of_production : Option Production → ℕ
 nodes_of_production None = 0
 nodes_of_production (Some production) = if is_reference production || makes_part production then 0 else 1

@@ -75,7 +75,7 @@ IsPart ground Part.SuffixRest value.suffix_rest = Unit {0}
 IsPart ground (Part.Symbol node) (value.a_symbol symbol) = IsSymbol ground.all node symbol
 IsPart ground _ _ = ⊥
 
--- A reading of the first parts agrees with that of their values. R relates the part that is read to its value.
+-- A reading of the first parts agrees with the reading of their values. R relates the part that is read to its value.
 abbrev pub Agree : {X A : Type 0} → Ground → (X → A → Type 0) → Result (X × List Part) Refusal → Next A → Type 0
 Agree {A = A} ground R (Ok found) read = (a : A) × (values : List Value) × (read ≡ Ok (a, values)) × R found.0 a × AreAll (IsPart ground) found.1 values
 Agree ground R (Err e) read = read ≡ Err e

@@ -31,7 +31,7 @@ pub record Keeps (s : List ℕ) (linked : RustNodes) (ended : List Ended) : Type
 abbrev pub first_nodes : ℕ
 first_nodes = 3
 
--- The lifetimes bound around the rule: at most as many as a symbol can bind before its place.
+-- The lifetimes bound around the rule: at most as many as a symbol can bind before the rule's place.
 pub record IsKept (linked : RustNodes) (kept : BoundLifetimes) (place bound : ℕ) : Type 0 where
   pub is : kept.bound ≡ bound
   pub few : bound ≤ most_bound * place

@@ -1,4 +1,4 @@
--- What the demangler takes of a Rust symbol that was read: its tree, its refusals and the numbers of its nodes.
+-- What the demangler takes from a Rust symbol that was read: its tree, its refusals and the numbers of its nodes.
 use Rattle.std.proofs.Common.{arith, ℕ, List, length}
 use Rattle.std.specs.Prelude.{slice_get}
 use Rattle.sym_core.specs.declared.refusal.Refusal.{Refusal}

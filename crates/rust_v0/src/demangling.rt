@@ -22,8 +22,8 @@ use sym_shape::Reader;
 ///
 /// # Errors
 ///
-/// `Malformed` at the first bad byte of a symbol that isn't well shaped, `BadReference` and `BadValue` at the first bad token
-/// of one that is, `Memory` where a list couldn't grow.
+/// `Malformed` at the first bad byte of a symbol that isn't well shaped, `BadReference` and `BadValue` at the first bad token of a symbol
+/// that is well shaped, `Memory` where a list couldn't grow.
 pub fn read(alloc: Global, s: &[u8]) -> Result<Symbol, Refusal>
     requires { FitsSymbol s.now }
     ensures bytes { IfOk result (λ symbol. symbol.bytes ≡ s.now) }
@@ -42,7 +42,7 @@ pub fn read(alloc: Global, s: &[u8]) -> Result<Symbol, Refusal>
 ///
 /// # Errors
 ///
-/// Those of `read`, for the bytes fed.
+/// The refusals of `read`, for the bytes fed.
 pub fn read_fed(alloc: Global, reader: Reader<V0>) -> Result<Symbol, Refusal>
     requires { reader.ended ≡ true }
     ensures bytes { IfOk result (λ symbol. symbol.bytes ≡ reader.bytes) }
@@ -61,7 +61,7 @@ pub fn read_fed(alloc: Global, reader: Reader<V0>) -> Result<Symbol, Refusal>
 ///
 /// # Errors
 ///
-/// Those of `read`, and `TooLong` exactly where the text costs more.
+/// The refusals of `read`, and `TooLong` exactly where the text costs more than the limit.
 pub fn demangle(alloc: Global, s: &[u8], limit: u32) -> Result<Vec<u8>, Refusal>
     requires { FitsSymbol s.now }
     ensures text { IfOk result (λ text. IsAnswer Detail.Full s.now limit (Ok text.items)) }
@@ -74,7 +74,7 @@ pub fn demangle(alloc: Global, s: &[u8], limit: u32) -> Result<Vec<u8>, Refusal>
 ///
 /// # Errors
 ///
-/// Those of `read`, and `TooLong` exactly where the text costs more.
+/// The refusals of `read`, and `TooLong` exactly where the text costs more than the limit.
 pub fn demangle_as(alloc: Global, s: &[u8], limit: u32, detail: Detail) -> Result<Vec<u8>, Refusal>
     requires { FitsSymbol s.now }
     ensures text { IfOk result (λ text. IsAnswer detail s.now limit (Ok text.items)) }

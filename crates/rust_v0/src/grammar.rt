@@ -1,4 +1,4 @@
-// The grammar of Rust v0 symbols, as the reader of shapes takes it.
+// The grammar of Rust v0 symbols, in the form that the reader of shapes expects.
 
 use sym_core::NameClass;
 use sym_shape::grammar::Grammar;

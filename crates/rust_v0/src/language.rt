@@ -32,8 +32,8 @@ const FUNCTION: u16 = Production::Function as u16;
 /// The number of the rule of a `dyn` type.
 const DYN: u16 = Production::Dyn as u16;
 
-/// Whether a rule may begin with a binder. This is tested at each rule that opens. By the rule's
-/// number it takes two comparisons; a match on the production would take twice as many
+/// Whether a rule may begin with a binder. This is tested at each rule that opens. Testing the
+/// rule's number takes two comparisons; a match on the production would take twice as many
 /// instructions.
 fn may_bind(rule: u16) -> bool
     ensures { OnFalse result ((bound : ℕ) (parts : List Part) → operands.bound_behind (production_of rule) bound parts ≡ bound) }
@@ -170,7 +170,7 @@ impl RustNodes {
 
     /// Takes a token in the rule of a frame by a call. The call gets its own copies of the frame
     /// and the row, so that the originals stay in registers. The copies are made in this function,
-    /// since in `token` they would be cleared at each token, called or not.
+    /// since in `token` they would be cleared at each token, even where the call isn't made.
     #[inline(always)]
     fn take_rare(
         &mut self,

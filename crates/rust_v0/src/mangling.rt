@@ -1,4 +1,4 @@
-// Rust's mangling, as the demangler takes it.
+// Rust's mangling, in the form that the demangler expects.
 
 ghost use Rattle.std.specs.Prelude.{◌≡◌, ℕ, ◌∷◌, [], length, OnOk, IfErr, Ok, true};
 ghost use Rattle.sym_core.specs.Number.{FitsSymbol};

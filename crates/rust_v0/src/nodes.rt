@@ -108,7 +108,7 @@ fn placed(node: Node, number: u32) -> (Added, Option<Target>)
 }
 
 impl RustNodes {
-    /// A table without nodes, which no symbol can be linked with before `restart`. It takes no memory.
+    /// A table without nodes, which no symbol can be linked with before `restart`. The call takes no memory.
     pub fn idle(alloc: Global) -> RustNodes {
         RustNodes {
             nodes: Nodes::new(alloc),
@@ -190,7 +190,7 @@ impl RustNodes {
         Ok(Part::Path(node))
     }
 
-    /// What a type's reference denotes, which may be a path.
+    /// What a type's reference denotes: a type, or a path.
     fn refer_to_type(&mut self, place: u32, bound: u64, found: Target) -> Result<Part, Refusal>
         ensures gives { (at : At) (known : Option Value) → at.place ≡ place → at.bound ≡ bound → place < length self.old.targets.items → Keeps at.symbol self.old at.ended
             → IsNoted (trees at.symbol self.old.nodes.nodes) found known → Gives (v0_view at.symbol) self.new result (refers_to_type at (as_type known)) }

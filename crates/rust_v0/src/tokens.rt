@@ -54,8 +54,8 @@ pub fn sort_of(rule: u16) -> TokenSort
 /// The most digits of a number in base 62.
 const MOST_DIGITS: usize = 11;
 
-/// A number in base 62, none past 64 bits. It stays a call: inlined, it makes the loop of
-/// `Workspace::link` take more instructions.
+/// A number in base 62, or none where it is beyond 64 bits. The function isn't inlined: inlined, it
+/// makes the loop of `Workspace::link` take more instructions.
 #[inline(never)]
 fn counted_number(digits: &[u8]) -> Option<u64>
     ensures { AreDigitsOf Base62 digits.now → IsNumber result (value_of_base62 digits.now) }
@@ -66,7 +66,7 @@ fn counted_number(digits: &[u8]) -> Option<u64>
     value62(digits)
 }
 
-/// The number of a character, none past 64 bits.
+/// The number of a character, or none where it is beyond 64 bits.
 fn character_code(digits: &[u8]) -> Option<u64>
     ensures { AreDigitsOf Hex digits.now → IsNumber result (value_of_hex digits.now) }
 {
@@ -116,7 +116,7 @@ fn without_zeros(digits: &[u8]) -> usize
 }
 
 impl RustNodes {
-    /// The span of an integer's decimal in the text list, which begins with that of zero.
+    /// The span of an integer's decimal in the text list, which begins with the decimal of zero.
     fn print_integer(&mut self, magnitude: u128, minus: bool) -> Result<Span, Refusal>
         requires room { length self.old.nodes.text + 40 < 2 ^ 32 }
         requires zero { HasZero self.old.nodes.text }
@@ -135,7 +135,7 @@ impl RustNodes {
         Ok(span)
     }
 
-    /// An integer by its hexadecimal digits, none past 128 bits.
+    /// An integer by its hexadecimal digits, or none where it is beyond 128 bits.
     fn integer(&mut self, symbol: &[u8], own: Span, minus: bool) -> Result<Part, Refusal>
         requires within { IsWithin own symbol.now }
         requires room { length self.old.nodes.text + 40 < 2 ^ 32 }

@@ -1,4 +1,4 @@
--- What proofs use of the libraries and of definitions, in one place to import it from.
+-- The library lemmas and definitions that this crate's proofs use, exported from one place.
 pub use Rattle.std.proofs.Common.{Bool, Fits, List, MatchOption, None, Option, Some, [], add-zero, ap, append-nil, append_assoc, ap₂, arith, bit_and, codes, cond, drop, eq-eqb, eqb-true, false, get_or, get_or-drop, if◌then◌else◌, inl, inr, is_some, le-leb, leb, leb-true, length, length-append, length-drop, length-take, length-take-le, lt_of_not-le, ltb-true, map, min, nat_eq, nat_le, nat_lt, ne_eqb, not, refl, replicate, rules, shr-shr, slice_get, subst, suc, sym, take, true, w64, w8, zero, ℕ, ◌%◌, ◌&&◌, ◌++◌, ◌+◌, ◌-◌, ◌/◌, ◌<◌, ◌==◌, ◌^◌, ◌||◌, ◌∙◌, ◌∷◌, ◌≡◌, ◌≢◌, ◌≤◌, ◌⊎◌}
 pub use Rattle.std.proofs.Math.Seq.{take-add}
 pub use Rattle.std.proofs.lemmas.Bool.{and_from, and_left, and_parts, and_right, cases_eq, cases_order, lt-leb, not-false, not-true, true≢false}

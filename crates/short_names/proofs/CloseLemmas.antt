@@ -114,7 +114,7 @@ module _ (items rest front : List ℕ) (alias : Alias) where
       by true e = absurd (omega (arith, long e (front_is ∙ ap front_for e), eqb-true (length front) 0 empty, front-some rest))
       by false e = record { text_is = sym (append-nil items); size_is = refl; within = omega arith }
 
-  -- a constructor that follows is written by the name of the class
+  -- a constructor that follows is written with the name of the class
   pub some-answered : (new : List ℕ) (size : ℕ) → front ≡ front_for (is_constructor rest class) → (length front == 0) ≡ false
       → new ≡ (items ++ front) ++ class_of alias → size ≡ length front + length class → IsAnswered new items rest (constructor alias rest) size
   some-answered new size front_is some new_is size_is = by (is_constructor rest class) refl

@@ -137,7 +137,7 @@ list_stops text now written others bracket is less at_byte brackets_are group =
     (sign_greater written rest p.top p.around p.opened_is
     ∙ ap (λ b. if b then closes_list short_rules p.top p.around written.last rest else None) (sym p.is.kind ∙ group))
 
--- the text that was written of a list
+-- the text that was written for a list
 list_text : (before name last : List ℕ) (mark : ℕ) (elements : List (List ℕ)) → mark ≡ 60
     → (before ++ name) ++ mark ∷ ended elements ++ last ≡ before ++ name ++ 60 ∷ joined (elements ++ last ∷ [])
 list_text before name last mark elements is_less =

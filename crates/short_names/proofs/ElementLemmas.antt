@@ -2,7 +2,7 @@
 use Rattle.std.proofs.Common.{◌≡◌, ◌≢◌, ◌<◌, ◌≤◌, ◌+◌, ◌-◌, zero, suc, ℕ, List, [], ◌∷◌, ◌++◌, length, take, drop, get_or, codes, refl, sym, ap, ◌∙◌, arith, length-append, append_assoc, append-nil, take_all, length-take}
 use Rattle.short_names.proofs.Basics.{drop_more, take_at, drop_at, joined, element, starts_of, AreElements}
 
--- what comes before the element in a place
+-- what comes before the element at a place
 lead : ℕ → List (List ℕ) → List ℕ
 lead zero elements = []
 lead (suc k) [] = []
@@ -48,7 +48,7 @@ take-more (suc k) (first ∷ next ∷ elements) within =
     ap (λ t. first ++ codes ", " ++ t) (take-more k (next ∷ elements) (omega (arith, within)))
     ∙ sym (append_assoc (first ++ codes ", ") (lead k (next ∷ elements)) (get_or (next ∷ elements) k []))
 
--- the next element begins two bytes after the end of one
+-- each element begins two bytes after the end of the element before it
 lead-next : (k : ℕ) (elements : List (List ℕ)) → k < length elements → length (lead (suc k) elements) ≡ length (joined (take (suc k) elements)) + 2
 unfolding lead
 lead-next k [] within = absurd (omega (arith, within))
@@ -78,7 +78,7 @@ unfolding joined lead
 first-within zero elements within = omega arith
 first-within (suc k) elements within = omega (arith, lead-next k elements (omega (arith, within)))
 
--- the text before an element is shorter than the whole text, by that element at least
+-- the text before an element is shorter than the whole text by at least the length of that element
 pub joined-before : (k : ℕ) (elements : List (List ℕ)) → k < length elements → length (joined (take k elements)) + length (get_or elements k []) ≤ length (joined elements)
 joined-before k elements within =
     omega (
@@ -93,7 +93,7 @@ take-front : (p q r : List ℕ) → take (length (p ++ q)) (p ++ r) ≡ p ++ tak
 take-front [] q r = refl
 take-front (x ∷ p) q r = ap (λ t. x ∷ t) (take-front p q r)
 
--- the first elements are a front of all
+-- the text of the first elements is a front of the text of all elements
 pub front-of-joined : (count : ℕ) (elements : List (List ℕ)) → take (length (joined (take count elements))) (joined elements) ≡ joined (take count elements)
 unfolding joined
 front-of-joined zero elements = refl
@@ -104,7 +104,7 @@ front-of-joined (suc (suc count)) (first ∷ next ∷ elements) =
     take-front (first ++ codes ", ") (joined (next ∷ take count elements)) (joined (next ∷ elements))
     ∙ ap (λ t. first ++ codes ", " ++ t) (front-of-joined (suc count) (next ∷ elements))
 
--- the text of the first elements isn't longer than that of all
+-- the text of the first elements isn't longer than the text of all elements
 pub joined-front : (count : ℕ) (elements : List (List ℕ)) → length (joined (take count elements)) ≤ length (joined elements)
 joined-front count elements = omega (arith, ap length (front-of-joined count elements), length-take (length (joined (take count elements))) (joined elements))
 
@@ -170,7 +170,7 @@ module _ (text starts : List ℕ) (elements : List (List ℕ)) (e : AreElements 
         ap (take (end - get_or starts k 0)) from-start
         ∙ take_at (get_or elements k []) (tail (drop (k + 1) elements)) (end - get_or starts k 0) (omega (arith, at, start-at, next-end))
 
-  -- the first elements, from where the first begins
+  -- the first elements, from where the first element begins
   pub first-are : (count end : ℕ) → end ≡ length e.before + length (joined (take count elements)) → take (end - get_or starts 0 0) (drop (get_or starts 0 0) text) ≡ joined (take count elements)
   first-are count end at =
       let long : end - get_or starts 0 0 ≡ length (joined (take count elements)) = omega (arith, at, start-zero) in

@@ -45,7 +45,7 @@ size-other rows name low other =
 
 -- ## Texts
 
--- the byte before a place is of a name
+-- the byte before a place belongs to a name
 abbrev pub in_run : List ℕ → ℕ → Bool
 in_run text at = not (at == 0) && is_name_byte (get_or text (at - 1) 0)
 
@@ -260,7 +260,7 @@ inners-marked : list_all (λ row. marked_row (text_of row)) INNERS ≡ true
 unfolding text_of marked_row
 inners-marked = refl
 
--- a name that may not begin with a row, by its first byte and its third, begins with none
+-- if the first and the third byte of a name rule out a row at its front, the name begins with no row
 unmarked : (name t : List ℕ) → may_begin name ≡ false → marked_row t ≡ true → starts_with nat_eq name t ≡ false
 unfolding marked_row
 unmarked name t other is =

@@ -1,4 +1,4 @@
--- From the mask of sixteen bytes to the bytes at the front that are of a class.
+-- From the mask of sixteen bytes to the bytes of a class at the front.
 use Rattle.short_names.proofs.Basics.{◌≡◌, ℕ, ◌+◌, ◌%◌, ◌^◌, ◌<◌, ◌≤◌, Bool, true, false, not, ◌||◌, List, [], ◌∷◌, map, length, take, drop, get_or, replicate, Fits, w8, refl, sym, ap, ap₂, ◌∙◌, subst, arith, inl, inr, map-map, mask_l-mod, length-chunk, get_or-chunk, leading_from_mask_l, trailing_mask_l, take-add, prefix_len, list_all, first_set}
 use Rattle.std.proofs.lemmas.Bool.{agree_below, agree_below_at, and_from, not-true, cases_eq, eq-eqb, ne_eqb, cond-true, cond-false}
 use Rattle.std.proofs.lemmas.List.{length-map, length-take, get_or-take, get_or-drop}

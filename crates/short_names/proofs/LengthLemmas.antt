@@ -1,4 +1,4 @@
--- A short text isn't longer than its text.
+-- A shortened text isn't longer than the text that it was made from.
 use Rattle.short_names.proofs.Basics.{◌≡◌, ◌≤◌, ◌+◌, ◌-◌, ◌==◌, ◌&&◌, refl, ap, ℕ, zero, suc, arith, Bool, true, false, List, [], ◌∷◌, ◌++◌, length, take, drop, Option, None, Some, is_some, nat_eq, codes, length-append, length-drop, length-take, if◌then◌else◌, starts_with, front, inner, std_front, std_size, without_inlines, IsNoLonger, named_in, std_name, is_name_byte, begins_std, run_of, operator_size, short, short_rules, shortened, taken, for_list, for_name, Answer, Opened, Written, Stepped, by_rules, text_or, closed_text, written_for, stepped, start, at_name, at_plain, at_byte, at_sign, sign_of, keeps, opens, closes_list, closes_group, ends_element, is_list, is_opening, is_closing, before_last, all_of, ended}
 use Rattle.short_names.proofs.ListLemmas.{ended-push, joined-push}
 use Rattle.short_names.proofs.NameSteps.{run-within, starts-within}
@@ -6,7 +6,7 @@ use Rattle.short_names.proofs.ShorterLemmas.{IsShort, list-shorter, name-short}
 
 -- ## A step
 
--- a step takes bytes that are there, and writes no more than it takes
+-- a step takes bytes of the text, and writes no more than it takes
 abbrev Steps : (room : ℕ) → Written → Option Stepped → Type 0
 Steps room written None = Unit {0}
 Steps room written (Some next) = (length (all_of next.written) ≤ length (all_of written) + next.size) × (next.size ≤ room)

@@ -24,7 +24,8 @@ take-before zero x r h = refl
 take-before (suc k) [] r h = absurd (omega (arith, h))
 take-before (suc k) (b ∷ x) r h = ap (λ t. b ∷ t) (take-before k x r (omega (arith, h)))
 
--- a text that doesn't begin with a name doesn't either with more bytes after it, if the first of these is of no name
+-- if a text doesn't begin with a name, it still doesn't once more bytes follow, if the first of those bytes belongs to
+-- no name
 pub front-behind : (x name r : List ℕ) → IsBehind r → list_all is_name_byte name ≡ true → starts_with nat_eq x name ≡ false → starts_with nat_eq (x ++ r) name ≡ false
 front-behind x name r behind all other =
     false-from (starts_with nat_eq (x ++ r) name) (λ h.

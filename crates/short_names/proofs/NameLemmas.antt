@@ -140,7 +140,7 @@ colon-is : is_name_byte 58 ≡ true
 unfolding is_name_byte
 colon-is = refl
 
--- no member follows a front of a run without a colon
+-- if a run has no colon, no member follows a front of the run
 no-member : (name text t class : List ℕ) → name ≡ run_of text → list_any (λ y. nat_eq y 58) name ≡ false → starts_with nat_eq name t ≡ true → is_constructor (drop (length t) text) class ≡ false
 unfolding is_constructor
 no-member name text t class run none begins =

@@ -12,7 +12,7 @@ use Rattle.short_names.proofs.NameSteps.{run-take, run-within, run-some, at_run,
 abbrev pub outside : List ℕ → Written
 outside last = record { opened = []; last = last }
 
--- the byte after a run isn't of a name
+-- the byte after a run belongs to no name
 pub run-stops : (text : List ℕ) → is_name_byte (get_or text (length (run_of text)) 0) ≡ false
 unfolding run_of is_name_byte is_letter
 run-stops [] = refl
@@ -23,7 +23,7 @@ run-stops (byte ∷ text) = by (is_name_byte byte) refl (run-stops text)
     by true e ih = ih
     by false e ih = e
 
--- a byte within a run is of a name
+-- a byte within a run belongs to a name
 run-letter : (text : List ℕ) (k : ℕ) → k < length (run_of text) → is_name_byte (get_or text k 0) ≡ true
 unfolding run_of
 run-letter [] k less = absurd (omega (arith, less))

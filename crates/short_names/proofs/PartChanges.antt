@@ -137,7 +137,7 @@ module _ (elements_of : List ℕ → Elements → Elements) (usual_of : List ℕ
         and-both _ _ (and-both _ _ n.0 (and-both _ _ d.0 (stands-other usual (usual_of name new) name rest (changed rest) d.1 (plain name new) (λ h. changed-free rest true ∙ h))))
         (and-both _ _ s.0 (and-both _ _ s.1 (changed-outside rest c.1)))
 
-  -- what is written for the changed parts is what other rules write for the parts
+  -- rules write for the changed parts what other rules write for the original parts
   module _ (lists : List ℕ → Bool) (test : List ℕ → List ℕ → Elements → Bool) (for_list other : List ℕ → List ℕ → List (List ℕ) → List ℕ)
       (at_list : (usual name : List ℕ) (elements : Elements) → (is_bare name || lists name) ≡ true → has_some elements ≡ true → each_apart lists elements ≡ true → test usual name elements ≡ true
       → all_lists_in test elements ≡ true → each_written for_list (each_changed elements) ≡ each_written other elements
@@ -358,7 +358,7 @@ module _ (lists : List ℕ → Bool) (test other : List ℕ → List ℕ → Ele
       let u = and_parts (all_lists_in test elements) _ t.1 in
       and-both _ _ (at_list usual name elements (or-true lists name d.0) b.0 c.0 t.0 u.0) (and-both _ _ (each-follow elements c.0 u.0) (outside-follow rest c.1 u.1))
 
--- what other rules write is the same
+-- other rules write the same, if they do so for each list that passes a test
 module _ (lists : List ℕ → Bool) (test : List ℕ → List ℕ → Elements → Bool) (for_list other : List ℕ → List ℕ → List (List ℕ) → List ℕ)
     (at_list : (usual name : List ℕ) (elements : Elements) → (is_bare name || lists name) ≡ true → test usual name elements ≡ true
     → for_list usual name (each_written other elements) ≡ other usual name (each_written other elements)) where

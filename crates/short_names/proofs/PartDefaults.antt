@@ -1,4 +1,4 @@
--- Defaults that are left out at the end of a list, and put there again.
+-- Defaults that are left out at the end of a list, and added once more.
 use Rattle.short_names.proofs.Basics.{◌≡◌, ◌==◌, ◌≤◌, ◌<◌, ◌+◌, ◌-◌, ◌&&◌, ◌||◌, ◌⊎◌, inl, inr, not, refl, sym, ap, ap₂, subst, ◌∙◌, eq-eqb, eqb-true, le-leb, ℕ, zero, suc, arith, Bool, true, false, List, [], ◌∷◌, ◌++◌, length, take, drop, get_or, slice_get, nat_eq, nat_le, Option, None, Some, if◌then◌else◌, length-append, length-drop, length-take, and_parts, true≢false, append_cancel_left, take_all, get_or_append_left, pointwise, list_all, flat_map, Named, Alias, Place, DEFAULTS, element, filled_for, defaults_of, default_pattern, pattern_at, is_default, is_given, left, left_of, is_polymorphic, aliases_of, with_defaults, Parts, differ_early, form_in, forms, has_default, has_form, inner_forms, inner_in, is_empty, is_no_hole, is_plain, is_simple, is_some_default, is_some_form, is_template, bit, filled, ticks, text_of}
 use lib.Pointwise.{bytes_decides}
 use Rattle.short_names.proofs.FrontLemmas.{false-from}
@@ -304,7 +304,7 @@ module _ (named : Named) (simple : IsSimple named) where
           let next : length (zs ++ d ∷ []) ≡ suc (length zs) = omega (arith, length-append zs (d ∷ [])) in
           again (zs ++ d ∷ []) (omega (arith, next)) (ap (lacks named) next ∙ first.1) (more-polymorphic zs d (text_of place) some first.0 e first.2 refl)
 
-  -- ## Defaults that are put there again
+  -- ## Defaults that are added once more
 
   has-place : (k : ℕ) → (length (default_pattern named k) == 0) ≡ false → (place : Place) × (others : List Place) × (lacks named k ≡ place ∷ others)
   unfolding lacks

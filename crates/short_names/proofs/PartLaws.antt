@@ -16,7 +16,7 @@ use Rattle.short_names.proofs.PartTexts.{any-all, any-apart, short_list_of, shor
 
 -- ## Full texts have short ones
 
--- a list has the same usual name with its defaults
+-- a list has the same usual name with its defaults as without them
 same-alias : (named : Named) (more xs : List (List ℕ)) (k n : ℕ) → take k more ≡ take n xs → (rows : List Alias) → list_all (λ (row : Alias). list_all is_no_hole (text_of row.arguments)) rows ≡ true
     → alias_in rows named more k ≡ alias_in rows named xs n
 unfolding alias_in
@@ -120,7 +120,7 @@ simple-test : (name : List ℕ) → is_simple_list name ≡ true → (not (is_ba
 unfolding is_simple_list
 simple-test name is = is
 
--- full texts have the same for a usual name as for the list that it is for
+-- full texts have the same bytes for a usual name and for the list that the name denotes
 pub reads : List ℕ → List ℕ → Elements → Bool
 reads usual name elements = is_bare usual || (is_usual usual && pointwise nat_eq (full_to 3 (usual_instance usual)) (full_bytes (full_to 3) [] name (each_written (full_bytes (full_to 3)) elements)))
 
@@ -146,7 +146,7 @@ reads-calls = record {
     all [] name elements is = refl
     all (byte ∷ usual) name elements is = usual-bytes (byte ∷ usual) (and_parts (is_usual (byte ∷ usual)) _ is).0
 
--- a short text has its usual name for a list that has one
+-- for a list that has a usual name, a short text has that name
 short-of-usual : (usual name : List ℕ) (xs : List (List ℕ)) (called : List ℕ) → usual_for name xs ≡ Some called → is_none_of_pmr (named_in name) xs ≡ true → short_bytes usual name xs ≡ called
 unfolding usual_for
 short-of-usual usual name xs called e none = by (named_in name) refl
@@ -325,7 +325,7 @@ alone name elements list some good =
     by true = refl
     by false = refl
 
--- The usual name that a short text has for a list has the full text of the list.
+-- The usual name that a short text has for a list has the same full text as the list.
 short-reads : (usual name : List ℕ) (elements : Elements) → (is_bare name || is_simple_list name) ≡ true → has_some elements ≡ true → each_apart is_simple_list elements ≡ true
     → is_known usual name elements ≡ true → all_lists_in is_known elements ≡ true → all_lists_in reads (short_of elements) ≡ true
     → reads (short_usual name (short_of elements)) name (short_elements name (short_of elements)) ≡ true
@@ -387,7 +387,7 @@ at-list usual name elements is some good known all read same = (
   full-of-short usual name elements is some good all read same,
 )
 
--- full texts have the same for each usual name of a list as for the list
+-- full texts have the same bytes for each usual name of a list and for the list
 known-reads : (usual name : List ℕ) (elements : Elements) → (is_bare name || is_simple_list name) ≡ true → has_some elements ≡ true → each_apart is_simple_list elements ≡ true → is_known usual name elements ≡ true
     → all_lists_in is_known elements ≡ true → reads usual name elements ≡ true
 unfolding reads is_known short_usual full_bytes or_bare

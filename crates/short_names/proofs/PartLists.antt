@@ -249,7 +249,7 @@ inner-text (row ∷ rows) pattern inner e = by (pointwise nat_eq (text_from (inn
     by true h same again = let is : row ≡ inner = cc in ap (λ (i : Inner). text_from (inner_part i)) (sym is) ∙ (bytes_decides (text_from (inner_part row)) pattern).0 h
     by false h same again = again same
 
--- the parts of a pattern that has a form, or that is a list, whose elements a function may replace
+-- the parts of a pattern that has a form or is a list; a function may replace the list's elements
 unfoldable pub any_by : (List ℕ → Elements → Elements) → Named → Elements → Option Parts → Option Inner → Parts
 any_by elements_of named elements (Some form) inner = in_holes (part_at elements 0) (part_at elements 1) (text_of named.whole) form
 any_by elements_of named elements None None = ends

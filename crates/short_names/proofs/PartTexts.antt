@@ -83,7 +83,7 @@ left-positive named simple xs some = by (nat_le (length xs) named.template.count
     by true = left-some named simple xs (length xs) some
     by false = some
 
--- a list whose template has no usual names isn't written by one
+-- a list whose template has no usual names isn't written by a usual name
 none-called : (name : List ℕ) (o : Option Named) (xs : List (List ℕ)) → has_aliases o ≡ false → is_bare (or_bare (usual_by o name xs)) ≡ true
 unfolding or_bare alias_in
 none-called name None xs none = refl
@@ -162,7 +162,7 @@ form-filled named elements f bare form is =
     form-written f bare (part_at elements 0) (part_at elements 1) (text_of named.whole) form is
     ∙ ap₂ (λ x y. filled x y (text_of named.whole) (text_from form)) (part-written f elements 0) (part-written f elements 1)
 
--- a default as it is, where rules leave its list
+-- a default as it is, where rules leave its list unchanged
 pub as-written : (f : List ℕ → List ℕ → List (List ℕ) → List ℕ) → ((es : List (List ℕ)) → f [] [] es ≡ listed es) → ((name x : List ℕ) → is_plain_list name ≡ true → f [] name (x ∷ []) ≡ name ++ listed (x ∷ []))
     → (named : Named) (elements : Elements) (pattern : List ℕ) → HasAny named pattern → written f (as_default named elements pattern) ≡ filled_for named (each_written f elements) pattern
 unfolding as_default any_by written

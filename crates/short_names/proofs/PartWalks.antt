@@ -16,7 +16,7 @@ pub record Obeys (rules : Rules) (for_list : List ℕ → List ℕ → List (Lis
   pub bare : (elements : List (List ℕ)) (rest : List ℕ) → rules.for_list [] elements rest ≡ record { bytes = for_list [] [] elements; size = 0 }
   pub bare_is : (elements : List (List ℕ)) → for_list [] [] elements ≡ listed elements
 
--- what rules do with lists that are written by their usual names, which pass a test
+-- what rules do with lists that pass a test and are written by their usual names
 pub record Calls (rules : Rules) (for_list : List ℕ → List ℕ → List (List ℕ) → List ℕ) (test : List ℕ → List ℕ → Elements → Bool) : Type 0 where
   pub bytes : (usual name : List ℕ) (elements : Elements) → test usual name elements ≡ true → list_all is_name_byte usual ≡ true
   pub calls : (usual name : List ℕ) (elements : Elements) → is_bare usual ≡ false → test usual name elements ≡ true → (opened : List Opened) (last rest : List ℕ) → IsFree rest
@@ -34,7 +34,7 @@ bare-calls rules for_list test bare = record {
     none [] is = refl
     none (byte ∷ usual) is = absurd (true≢false (sym is))
 
--- the innermost bracket around is that of a list, or another one
+-- the innermost open bracket, if there is one, is a list's exactly if `in_list` is true
 abbrev Around : (in_list : Bool) → List Opened → Type 0
 Around in_list [] = Unit {0}
 Around in_list (top ∷ around) = is_list top ≡ in_list

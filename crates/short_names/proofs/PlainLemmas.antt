@@ -11,7 +11,7 @@ short_plain text plain =
     ∙ ap (λ t. written_for short_rules 0 t (outside ([] ++ take (length text) text))) (drop_all (length text) text (omega arith)))
     ∙ take_all (length text) text (omega arith)
 
--- the byte before a place is of a name; `in_run` says whether the byte before the text is
+-- the byte before a place belongs to a name; `in_run` says whether the byte before the text does
 abbrev before : Bool → List ℕ → ℕ → Bool
 before in_run text zero = in_run
 before in_run text (suc k) = is_name_byte (get_or text k 0)

@@ -3,7 +3,7 @@ use Rattle.std.proofs.Common.{◌≡◌, ◌<◌, ◌≤◌, ◌+◌, ◌⊎◌,
 use Rattle.short_names.proofs.Basics.{and_parts, and_left, list_all, is_letter, is_name_byte, run_of, begins_std, is_std_at}
 use Rattle.short_names.proofs.FrontLemmas.{false-from, front-length}
 
--- the bytes of names at the front of a text, up to a byte that is of no name, are its run
+-- the bytes of names at the front of a text, up to a byte that belongs to no name, are the text's run
 pub run-is : (text : List ℕ) (n : ℕ) → n ≤ length text → list_all is_name_byte (take n text) ≡ true
     → (n < length text → is_name_byte (get_or text n 0) ≡ false) → take n text ≡ run_of text
 unfolding run_of
@@ -34,7 +34,8 @@ std-room text at is =
       | inr room ↦ room
     ]
 
--- if no run begins with `std::` at some places, at the places after them and at the next place, none does at all of these
+-- if no run begins with `std::` from `from` up to `at`, and none from `at` to `next`, then none does from `from` to
+-- `next`
 pub no-std-more : (text : List ℕ) (from at next : ℕ) → ((k : ℕ) → from ≤ k → k < at → is_std_at text k ≡ false)
     → ((k : ℕ) → at ≤ k → k < next → begins_std (drop k text) ≡ false) → is_std_at text next ≡ false
     → (k : ℕ) → from ≤ k → k < next + 1 → is_std_at text k ≡ false
@@ -66,7 +67,7 @@ run-prefix (byte ∷ text) = by (is_name_byte byte) (run-prefix text)
     by true rest = ap (λ t. byte ∷ t) rest
     by false rest = refl
 
--- a run ends where a byte is of no name, or the text does
+-- a run ends where a byte belongs to no name, or where the text ends
 pub run-stops : (text : List ℕ) → is_name_byte (get_or text (length (run_of text)) 0) ≡ false
 unfolding run_of is_name_byte is_letter
 run-stops [] = refl

@@ -1,4 +1,4 @@
--- The list of `std::string`, which becomes that name without a walk through the list.
+-- The list of `std::string`, which becomes `std::string` without a walk through the list.
 use Rattle.short_names.proofs.Basics.{◌≡◌, ◌≤◌, ◌<◌, ◌+◌, ◌-◌, ◌&&◌, refl, sym, ap, ◌∙◌, subst, ℕ, arith, true, false, List, [], ◌∷◌, ◌++◌, length, take, drop, get_or, slice_get, Option, None, Some, is_some, append_assoc, append-nil, length-drop, length-take, nat_eq, codes, if◌then◌else◌, drop-drop, drop_at, take-append-drop, take-take, starts_with, Named, Alias, Place, ALIASES, STD, STRING, STRING_TEMPLATE, TEMPLATES, Writing, has_list, IsString, left, left_of, alias_in, aliases_of, joined, is_polymorphic, listed, named_in, std_name, table_name, template_in, with_template, member_in, filled, behind_run, is_name_byte, is_letter, run_of, begins_std, ends_operator, sign_size, short_rules, for_list, for_name, short_list, before_name, behind, constructor, if_read_back, is_read_back, member, text_of, Answer, Opened, Written, stepped, written_for, at_sign, at_plain, answers, keeps, opens, IsAt, Goes, AreOpen, before_last, all_of}
 use Rattle.short_names.proofs.BracketLemmas.{no_name, here_is}
 use Rattle.short_names.proofs.CloseLemmas.{name-ends}

@@ -11,7 +11,7 @@ name-is row name h = (bytes_eq-Decides (text_of row.name) name).0 h
 
 -- ## By sizes
 
--- a row is among the rows whose names have its name's size
+-- the row is among the rows of its name's size
 fits : ℕ → Template → Bool
 fits k row = nat_le (get_or FIRST (length (text_of row.name)) 0) k && nat_lt k (get_or FIRST (length (text_of row.name) + 1) 0)
 
@@ -29,7 +29,7 @@ where-it-fits k row name h is =
     let parts = and_parts (nat_le (get_or FIRST (length (text_of row.name)) 0) k) (nat_lt k (get_or FIRST (length (text_of row.name) + 1) 0)) h in
     subst (λ (n : List ℕ). (get_or FIRST (length n) 0 ≤ k) × (k < get_or FIRST (length n + 1) 0)) (name-is row name is) (leb-true _ _ parts.0, ltb-true _ _ parts.1)
 
--- no row after those of a name's size has the name
+-- a name isn't in a row after the rows of its size
 past : (k : ℕ) (rows : List Template) (name : List ℕ) → placed k rows ≡ true → get_or FIRST (length name + 1) 0 ≤ k → template_in rows name ≡ None
 unfolding template_in placed
 past k [] name all le = refl
@@ -38,7 +38,7 @@ past k (row ∷ rows) name all le =
     let other : has_name row name ≡ false = false-from (has_name row name) (λ is. absurd (omega (arith, le, (where-it-fits k row name parts.0 is).1))) in
     rw other (past (k + 1) rows name parts.1 (omega (arith, le)))
 
--- no row before those of a name's size has the name
+-- a name isn't in a row before the rows of its size
 before : (n k : ℕ) (rows : List Template) (name : List ℕ) → placed k rows ≡ true → k + n ≤ get_or FIRST (length name) 0 → template_in rows name ≡ template_in (drop n rows) name
 unfolding template_in placed
 before zero k rows name all le = refl

@@ -1,4 +1,5 @@
--- Short texts keep full texts and full texts keep short ones, where a text has usual names or their lists outside of other lists.
+-- A text and its short text have the same full text, and a text and its full text have the same short text, where the text has
+-- usual names or their lists outside of other lists.
 use Rattle.short_names.proofs.Basics.{◌≡◌, ◌&&◌, ◌∷◌, ◌==◌, inl, inr, not, refl, sym, ap, ap₂, subst, ◌∙◌, ℕ, arith, Bool, true, false, List, [], ◌++◌, Some, append-nil, append_assoc, eq-eqb, and_parts, true≢false, full, full_to, full_rules, begins_free, begins_name, is_end, Parts, ends, name_then, byte_then, group_then, list_then, Elements, written, as_it_is, text_from, are_outside, all_lists, is_simple_list, short_bytes, full_bytes, is_known, is_name_byte, is_letter, short, short_rules, GoesOn, IsConstructed, IsUsual, Whole, last_parts, usual_then, member_then, constructor_then, front_of, comes_apart, whole_written, one_of, is_free, AreApart, all_within, IsWhole, Rules, by_rules, text_or, written_for}
 use Rattle.short_names.proofs.ConstructorSteps.{short-by-name, short-by-list, full-by-name, full-by-list}
 use Rattle.short_names.proofs.MemberSteps.{member-after, short-member, full-member, short-alone, full-alone}

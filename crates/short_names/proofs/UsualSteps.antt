@@ -1,4 +1,4 @@
--- Usual names and the lists that they are for, outside of lists.
+-- Usual names and the lists that they replace, outside of lists.
 use Rattle.short_names.proofs.Basics.{◌≡◌, ◌==◌, ◌<◌, ◌+◌, ◌-◌, ◌&&◌, ◌||◌, not, refl, sym, ap, ap₂, subst, ◌∙◌, eqb-true, ℕ, arith, Bool, true, false, List, [], ◌∷◌, ◌++◌, length, take, drop, get_or, nat_eq, codes, Option, None, Some, is_some, if◌then◌else◌, append-nil, append_assoc, and_parts, true≢false, list_all, starts_with, Named, Alias, ALIASES, joined, listed, left, left_of, is_polymorphic, full_to, full_rules, usual, usual_in, instance, pmr_in, StdName, std_name, named_in, last_part, class_of, front_size, is_constructor, ends_name, member_in, alias_of, each_written, as_it_is, instance_by, instance_of, is_bare, is_only, is_row, is_std, is_usual, usual_instance, has_some, each_apart, is_simple_list, short_bytes, full_bytes, ends_operator, is_letter, is_name_byte, short_rules, short_list, if_read_back, is_read_back, member, text_of, IsUsual, is_listed, Answer, Opened, Rules, sign_of, written_for}
 use lib.Pointwise.{bytes_decides}
 use Rattle.short_names.specs.Full as of_full
@@ -11,7 +11,7 @@ pub name-parts : (name : List ℕ) → (not (is_bare name) && list_all is_name_b
 name-parts [] h = absurd (true≢false (sym h))
 name-parts (byte ∷ name) h = (omega arith, h)
 
--- A usual name, and what full texts have for it.
+-- A usual name, and what full texts have in its place.
 pub record IsFor (name list : List ℕ) : Type 0 where
   pub std : StdName
   pub alias : Alias
@@ -120,13 +120,13 @@ module _ (rest : List ℕ) (free : IsFree rest) where
         by true b h = absurd (true≢false h)
         by false b h = (refl, h)
 
-    -- short texts leave the name
+    -- short texts leave the name as it is
     pub short-name : sign_of opened name rest ≡ [] → written_for short_rules 0 (name ++ rest) (at opened last) ≡ written_for short_rules 0 rest (at opened (last ++ name))
     short-name quiet =
         name-stays short_rules name rest opened last bytes.0 bytes.1 free.0 nowhere.0
         (ap (of_short.for_name name rest) is.std_is ∙ ap (member name rest is.std.name) (same-usual ALIASES is.std.name is.only).1) quiet
 
-    -- full texts have the list for the name
+    -- full texts have the list in place of the name
     pub full-name : written_for (full_rules (full_to 3)) 0 (name ++ rest) (at opened last) ≡ written_for (full_rules (full_to 3)) 0 rest (at opened (last ++ list))
     full-name =
         let inner : List ℕ → List ℕ = full_to 3 in
@@ -173,7 +173,7 @@ module _ (rest name list : List ℕ) (is : IsUsual name list) (last : List ℕ) 
       ap (λ t. t ++ rest) is.list_from ∙ append_assoc is.run (listed (each_written as_it_is is.elements)) rest
       ∙ ap (λ t. is.run ++ 60 ∷ t) (append_assoc (joined (each_written as_it_is is.elements)) (62 ∷ []) rest)
 
-  -- short texts have the name for the list
+  -- short texts have the name in place of the list
   pub short-list : IsAfter is.alias rest → written_for short_rules 0 (list ++ rest) (at [] last) ≡ written_for short_rules 0 rest (at [] (last ++ name))
   unfolding short_list
   short-list after =
@@ -206,7 +206,7 @@ module _ (rest name list : List ℕ) (is : IsUsual name list) (last : List ℕ) 
       ∙ name-opens short_rules is.run (joined (each_written as_it_is is.elements) ++ 62 ∷ rest) [] last run_parts.0 run_parts.1 (ap is_some is.named_is)
       ∙ each-goes short_rules short_bytes is_simple_list short-obeys is_listed (listed-calls short_rules short_bytes) is.elements a.1 is.plain a.0 is.run last [] [] [] rest name (ap (λ o. of_short.for_list o is.run xs rest) is.named_is ∙ answer)
 
-  -- full texts leave the list
+  -- full texts leave the list as it is
   pub full-list : written_for (full_rules (full_to 3)) 0 (list ++ rest) (at [] last) ≡ written_for (full_rules (full_to 3)) 0 rest (at [] (last ++ list))
   unfolding full_bytes
   full-list =

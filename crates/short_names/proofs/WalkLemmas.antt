@@ -1,4 +1,4 @@
--- One step of the walk through a text, by the place of the text.
+-- One step of the walk through a text, by the place that the walk has reached.
 use Rattle.short_names.proofs.Basics.{◌≡◌, ◌<◌, ◌≤◌, ◌+◌, ◌-◌, refl, sym, ap, ◌∙◌, ℕ, zero, suc, arith, List, [], ◌∷◌, ◌++◌, length, take, drop, Option, None, Some, length-drop, take-add, Rules, Written, Stepped, stepped, written_for}
 use Rattle.std.proofs.lemmas.List.{drop-drop, length-take-le}
 

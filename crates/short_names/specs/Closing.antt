@@ -1,4 +1,4 @@
--- A list of a name of the table at the end of a text, and what is written for it.
+-- A list that belongs to a name of the table, at the end of a text, and what is written for the list.
 use Rattle.std.specs.Prelude.{◌≡◌, ◌≤◌, ◌<◌, ℕ, List, ◌∷◌, ◌++◌, ◌+◌, true, length, take, drop, slice_get, Some, IfSome}
 use Rattle.short_names.specs.declared.names.Named.{Named}
 use Rattle.short_names.specs.declared.table.Place.{Place}
@@ -27,7 +27,7 @@ pub record IsString (whole : Place) (row : ℕ) (rest : List ℕ) : Type 0 where
   pub follows : take (length STRING_LIST) rest ≡ STRING_LIST
   pub read_back : IfSome (slice_get ALIASES STRING) (λ alias. is_read_back (drop (length STRING_LIST) rest) alias ≡ true)
 
--- an answer was written after a text; `size` of the bytes that follow belong to it
+-- an answer was written after a text; `size` of the bytes that follow belong to the answer
 pub record IsAnswered (new before rest : List ℕ) (answer : Answer) (size : ℕ) : Type 0 where
   pub text_is : new ≡ before ++ answer.bytes
   pub size_is : size ≡ answer.size

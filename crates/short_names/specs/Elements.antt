@@ -1,4 +1,4 @@
--- What is left of the elements of a list, by the name of the table before it.
+-- What is left of the elements of a list, by the name of the table that precedes the list.
 use Rattle.std.specs.Prelude.{◌≡◌, ℕ, zero, suc, List, [], ◌∷◌, ◌++◌, ◌-◌, Bool, not, ◌==◌, ◌&&◌, nat_le, nat_eq, length, take, drop, get_or, slice_get, codes, Option, None, Some, if◌then◌else◌}
 use Rattle.std.specs.Cmp.Lexicographic.{pointwise}
 use Rattle.short_names.specs.declared.table.Place.{Place}
@@ -20,7 +20,7 @@ joined (element ∷ next ∷ elements) = element ++ codes ", " ++ joined (next �
 abbrev pub listed : List (List ℕ) → List ℕ
 listed elements = 60 ∷ joined elements ++ 62 ∷ []
 
--- the element in a place; nothing where there is none
+-- the element at a place; nothing where there is no such element
 abbrev pub element : List (List ℕ) → ℕ → List ℕ
 element elements place = get_or elements place []
 
@@ -30,7 +30,7 @@ element elements place = get_or elements place []
 abbrev pub filled_for : Named → List (List ℕ) → (pattern : List ℕ) → List ℕ
 filled_for named elements pattern = filled (element elements 0) (element elements 1) (text_of named.whole) pattern
 
--- the pattern of the default in a place; empty if there is no default
+-- the pattern of the default at a place; empty if there is no default
 abbrev pub pattern_at : Option Place → List ℕ
 pattern_at None = []
 pattern_at (Some place) = text_of place
@@ -51,7 +51,7 @@ AreHoles named elements holes =
 abbrev pub is_given : Named → List (List ℕ) → (text pattern : List ℕ) → Bool
 is_given named elements text pattern = not (length pattern == 0) && pointwise nat_eq text (filled_for named elements pattern)
 
--- the element in a place is the default
+-- the element at a place is the default
 abbrev pub is_default : Named → List (List ℕ) → ℕ → Bool
 is_default named elements place = is_given named elements (element elements place) (default_pattern named place)
 
@@ -71,7 +71,7 @@ abbrev pub is_polymorphic : Named → List (List ℕ) → Bool
 is_polymorphic named elements =
     length elements == named.template.count && is_given named elements (element elements (length elements - 1)) (text_of named.template.polymorphic)
 
--- the row, among some, of the usual name of the template with the first elements; none where there is none
+-- the row, among these rows, of the usual name of the template with the first elements; none where there is no such row
 unfoldable pub alias_in : List Alias → Named → List (List ℕ) → ℕ → Option Alias
 alias_in [] named elements count = None
 alias_in (row ∷ rows) named elements count =

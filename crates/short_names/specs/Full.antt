@@ -26,7 +26,7 @@ defaulted full named count elements = with_defaults full named elements (drop (l
 
 -- ## Names of `std::pmr`
 
--- the name of the table that a name of std is without `pmr::`
+-- a name of std without its `pmr::`, as a name of the table
 abbrev pub without_pmr : Option StdName → Option StdName
 without_pmr None = None
 without_pmr (Some std) = if starts_with nat_eq std.name (codes "pmr::") then Some (record std { name = drop 5 std.name }) else None
@@ -38,8 +38,8 @@ if_polymorphic (Some named) = if length (text_of named.template.polymorphic) == 
 abbrev pub pmr_in : (run : List ℕ) → Option Named
 pmr_in run = if_polymorphic (table_name (without_pmr (std_name run)))
 
--- the list of a name of `std::pmr`: the elements with its allocator, and the name without `pmr::`; where the last element is a
--- default, the list stays, since no short text has such a list
+-- the list of a name of `std::pmr`: the elements with the allocator of `std::pmr`, and the name without `pmr::`. Where the
+-- last element is a default, the list stays, since no short text has such a list
 abbrev pub pmr_list : (full : List ℕ → List ℕ) → Named → (run : List ℕ) → List (List ℕ) → List ℕ
 pmr_list full named run elements =
     let all = defaulted full named (named.template.count - 1) elements in
@@ -58,7 +58,8 @@ for_list full run elements (Some named) = record { bytes = run ++ listed (defaul
 
 -- ## Usual names
 
--- the row of the usual name that comes first in a name and ends there; `text` is the name and what comes after it
+-- the first row with a usual name that begins the name and isn't the beginning of a longer one; `text` is the name and
+-- what comes after it
 unfoldable pub usual_in : List Alias → (name text : List ℕ) → Option Alias
 usual_in [] name text = None
 usual_in (row ∷ rows) name text =
@@ -102,6 +103,6 @@ unfoldable pub full_to : ℕ → List ℕ → List ℕ
 full_to zero text = text
 full_to (suc depth) text = by_rules (full_rules (full_to depth)) text
 
--- The full text of a text. No usual names and defaults of the table are nested to a greater depth.
+-- The full text of a text, to a depth of 4. No usual names and defaults of the table are nested more deeply.
 unfoldable pub full : List ℕ → List ℕ
 full text = full_to 4 text

@@ -10,7 +10,7 @@ use Rattle.short_names.specs.Texts.{text_of}
 abbrev pub begins_low : Place → Bool
 begins_low row = not (length (text_of row) == 0) && get_or (text_of row) 0 0 == 95
 
--- the size of the inline namespaces with which a name begins, where its first `skipped` bytes are of one
+-- the size of the inline namespaces with which a name begins, where its first `skipped` bytes belong to one
 unfoldable pub inlines_size : List Place → (skipped : ℕ) → List ℕ → ℕ
 inlines_size rows skipped [] = 0
 inlines_size rows (suc skipped) (byte ∷ name) = suc (inlines_size rows skipped name)
@@ -19,8 +19,8 @@ inlines_size rows zero (byte ∷ name) = elim (size_of (row_in rows (byte ∷ na
   | suc size ↦ suc (inlines_size rows size name)
 ]
 
--- for a name after `std::`: the size of the inline namespaces at its front, that of the namespace after them if it has inline
--- namespaces of its own, and the size of these
+-- for a name after `std::`, three sizes: that of the inline namespaces at its front; that of the namespace after them, if
+-- this has inline namespaces of its own; and that of those inline namespaces
 abbrev pub front : List ℕ → ℕ
 front name = inlines_size INLINES 0 name
 
@@ -41,7 +41,8 @@ std_front text = codes "std::" ++ take (inner (drop 5 text)) (drop (front (drop 
 abbrev pub std_size : List ℕ → ℕ
 std_size text = 5 + (front (drop 5 text) + inner (drop 5 text) + nested (drop 5 text))
 
--- A text without the inline namespaces of `std`, after `skipped` bytes; `in_run`: the byte before the text is of a name.
+-- A text without the inline namespaces of `std`, after `skipped` bytes. `in_run` says whether the byte before the text
+-- belongs to a name.
 unfoldable pub without_inlines : (in_run : Bool) → (skipped : ℕ) → List ℕ → List ℕ
 without_inlines in_run skipped [] = []
 without_inlines in_run (suc skipped) (byte ∷ text) = without_inlines (is_name_byte byte) skipped text

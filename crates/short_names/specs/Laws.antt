@@ -10,7 +10,7 @@ use Rattle.short_names.specs.Runs.{is_std_at, run_of}
 use Rattle.short_names.specs.Short.{short, shortened}
 use Rattle.short_names.specs.Walk.{Pairs}
 
--- A short text isn't longer than its text, with inline namespaces or without them.
+-- A short text isn't longer than the text that it is made from, with inline namespaces or without them.
 abbrev pub IsNoLonger : (keeps_inline : Bool) → List ℕ → Type 0
 IsNoLonger keeps_inline text = length (shortened keeps_inline text) ≤ length text
 

@@ -21,13 +21,13 @@ size_of (Some row) = length (text_of row)
 
 -- ## A name of std
 
--- A name of std: its `std::`, with the inline namespace that holds all of `std` if there is one, and what comes after that, without the
--- inline namespace that holds a part of `std` if there is one.
+-- A name of std, in two parts: its `std::`, and what comes after that. The first part has the inline namespace that holds all of `std`,
+-- if there is one. The second part lacks the inline namespace that holds a part of `std`.
 pub record StdName : Type 0 where
   pub whole : Place
   pub name : List ℕ
 
--- a name without the inline namespace at its front that holds a part of `std`, if there is one
+-- a name without the inline namespace that holds a part of `std`, if the name begins with one
 abbrev pub behind_part : List ℕ → List ℕ
 behind_part name = drop (size_of (row_in PARTS name)) name
 
@@ -100,8 +100,8 @@ ends_name (byte ∷ rest) = starts_with nat_eq (byte ∷ rest) (codes "::") || n
 
 -- ## A usual name that was written already
 
--- the row of the usual name that comes first in a name, where a constructor or destructor by the template's name follows;
--- `behind` is what comes after the name in its text
+-- the row of the usual name with which a name begins, if a constructor or destructor by the template's name follows;
+-- `behind` is the text from the name on
 unfoldable pub member_in : List Alias → (name behind : List ℕ) → Option Alias
 member_in [] name text = None
 member_in (row ∷ rows) name text =

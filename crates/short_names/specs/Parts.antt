@@ -30,7 +30,7 @@ mutual
     no_more : Elements
     element_then : (element : Parts) → (others : Elements) → Elements
 
--- What is written for parts, by what is written for a list with its usual name, its name and its elements.
+-- What is written for parts, given what is written for a list by its usual name, its name and its elements.
 unfoldable mutual
   pub written : (for_list : List ℕ → List ℕ → List (List ℕ) → List ℕ) → Parts → List ℕ
   written for_list ends = []
@@ -130,7 +130,7 @@ is_placed is_list usual (byte ∷ name) rest = is_list (byte ∷ name) && stands
 abbrev pub opens_group : ℕ → Bool
 opens_group byte = byte == 40 || (byte == 91 || byte == 123)
 
--- A byte of no name that is no bracket, and no comma directly within a list. A `-` isn't the last part.
+-- A byte that belongs to no name, is no bracket, and is no comma directly within a list. A `-` isn't the last part.
 abbrev pub is_between_names : (in_list : Bool) → ℕ → Parts → Bool
 is_between_names in_list byte rest =
     not (is_name_byte byte) && (not (is_opening byte) && (not (byte == 62) && (not (is_closing byte) && (not (in_list && byte == 44) && not (byte == 45 && is_end rest)))))
@@ -151,7 +151,7 @@ unfoldable mutual
 
 -- ## Parts of a whole text
 
--- Parts that stay apart outside of brackets. Each list there is one that rules may change.
+-- Parts that stay apart outside of brackets. Each list outside of brackets is one that rules may change.
 unfoldable pub are_outside : (is_list : List ℕ → Bool) → Parts → Bool
 are_outside is_list ends = true
 are_outside is_list (name_then name rest) = is_other name && (not (begins_name rest) && are_outside is_list rest)
@@ -204,7 +204,7 @@ forms =
     ∷ name_then (codes "long") ends ∷ name_then (codes "char") ends ∷ name_then (codes "void") ends ∷ name_then (codes "false") ends ∷ name_then (codes "1l") ends
     ∷ name_then (codes "18446744073709551615ul") ends ∷ byte_then 1 (byte_then 42 ends) ∷ byte_then 1 (byte_then 38 ends) ∷ []
 
--- the form whose text a pattern is; none where there is none
+-- the form that has a pattern as its text, if there is one
 unfoldable pub form_in : List Parts → (pattern : List ℕ) → Option Parts
 form_in [] pattern = None
 form_in (form ∷ others) pattern = if pointwise nat_eq (text_from form) pattern then Some form else form_in others pattern
@@ -284,7 +284,7 @@ inner_forms =
     ∷ record { name = 2 ∷ codes "istreambuf_iterator"; argument = first } ∷ record { name = 2 ∷ codes "ostreambuf_iterator"; argument = first }
     ∷ record { name = 2 ∷ codes "ratio"; argument = name_then (codes "1l") ends } ∷ []
 
--- the default whose text a pattern is; none where there is none
+-- the default that has a pattern as its text, if there is one
 unfoldable pub inner_in : List Inner → (pattern : List ℕ) → Option Inner
 inner_in [] pattern = None
 inner_in (inner ∷ others) pattern = if pointwise nat_eq (text_from (inner_part inner)) pattern then Some inner else inner_in others pattern
@@ -338,7 +338,7 @@ is_none_of_pmr (Some named) elements = not (is_polymorphic named elements)
 
 -- ## Usual names
 
--- each usual name with which a name begins is that name, or a letter comes after it
+-- each usual name with which a name begins is the whole name, or a letter comes after the usual name
 unfoldable pub is_only : List Alias → List ℕ → Bool
 is_only rows name =
     list_all (λ row. not (starts_with nat_eq name (text_of row.name)) || (is_letter (get_or name (length (text_of row.name)) 0) || length name == length (text_of row.name))) rows
@@ -366,13 +366,13 @@ abbrev pub is_std : (name : List ℕ) → Option StdName → Bool
 is_std name None = false
 is_std name (Some std) = is_only ALIASES std.name && is_row name std (alias_of std)
 
--- A usual name, for which full texts have the list of an instance; each list in that is full.
+-- A usual name for which full texts have the list of an instance. Each list within that list is full.
 unfoldable pub is_usual : (name : List ℕ) → Bool
 is_usual name =
     (not (is_bare name) && list_all is_name_byte name) && (not (is_some (named_in name) || is_some (pmr_in name)) && (not (ends_operator name)
     && (is_std name (std_name name) && pointwise nat_eq (full_to 4 (usual_instance name)) (full_to 3 (usual_instance name)))))
 
--- the usual name that a short text has for a list; none where it has none
+-- the usual name that a short text has for a list, if there is one
 abbrev pub name_of : Named → (name : List ℕ) → Option Alias → Option (List ℕ)
 name_of named name None = None
 name_of named name (Some alias) = Some (before_name named name ++ text_of alias.name)
@@ -401,9 +401,9 @@ is_known usual name elements =
     is_none_of_pmr (named_in name) (each_written short_bytes elements)
     && is_called (usual_for name (each_written short_bytes elements)) usual name (each_written short_bytes elements)
 
--- A text is made of these parts: each list is one of a template of the table, with another allocator than that of `std::pmr`,
--- or is written as its usual name; any list, and other brackets, may be within such a list. The other names of the text are
--- none of the table.
+-- A text is made of these parts. Each list is one of a template of the table, with an allocator other than that of
+-- `std::pmr`, or is written as its usual name; any list, and other brackets, may be within such a list. The other names of
+-- the text are none of the table.
 pub record IsMade (text : List ℕ) : Type 0 where
   pub parts : Parts
   pub text_is : text ≡ text_from parts

@@ -1,4 +1,4 @@
--- What a text is parted into: runs of bytes of names, and signs.
+-- What a text is split into: runs of bytes of names, and signs.
 use Rattle.std.specs.Prelude.{ℕ, List, [], ◌∷◌, Bool, not, ◌==◌, ◌-◌, ◌||◌, ◌&&◌, nat_le, nat_eq, length, drop, get_or, codes, if◌then◌else◌}
 use Rattle.std.specs.List.{starts_with, ends_with}
 use Rattle.std.specs.Int.{w64, trailing_zeros}
@@ -19,7 +19,7 @@ unfoldable pub run_of : List ℕ → List ℕ
 run_of [] = []
 run_of (byte ∷ text) = if is_name_byte byte then byte ∷ run_of text else []
 
--- a run ends with the word `operator`, and that isn't the end of a longer one
+-- a run ends with the word `operator`, and this isn't the end of a longer word
 unfoldable pub ends_operator : List ℕ → Bool
 ends_operator run =
     ends_with nat_eq run (codes "operator") && (length run == 8 || not (is_letter (get_or run (length run - 9) 0)))

@@ -9,11 +9,12 @@ use Rattle.short_names.specs.Names.{StdName, std_name, named_in, last_part, fron
 use Rattle.short_names.specs.Texts.{text_of}
 use Rattle.short_names.specs.Walk.{Answer, Rules, by_rules}
 
--- what comes before a template's name in the run that is a name of the table
+-- the part of a run before the template's name; the run is a name of the table
 abbrev pub before_name : Named → List ℕ → List ℕ
 before_name named run = take (length run - length (text_of named.template.name)) run
 
--- The constructor or destructor that follows a usual name by the template's name.
+-- What is written instead of a constructor or destructor that follows a usual name and has the template's name: one
+-- with the name that `class_of` gives. Nothing if none follows.
 abbrev pub constructor : Alias → (rest : List ℕ) → Answer
 constructor alias rest =
     if is_constructor rest (last_part (text_of alias.template)) then record {

@@ -1,4 +1,4 @@
--- Texts with usual names outside of lists, or with the lists that those are for.
+-- Texts with usual names outside of lists, or with the lists that these names replace.
 use Rattle.std.specs.Prelude.{◌≡◌, codes, drop, nat_le, ℕ, List, [], ◌++◌, ◌+◌, ◌-◌, Bool, true, false, not, ◌==◌, ◌&&◌, ◌||◌, nat_eq, length, get_or, take, None, Some, is_some, if◌then◌else◌}
 use Rattle.std.specs.List.{starts_with, list_all}
 use Rattle.short_names.specs.declared.table.Alias.{Alias}
@@ -16,7 +16,7 @@ use Rattle.short_names.specs.Texts.{text_of}
 unfoldable pub is_listed : (usual name : List ℕ) → Elements → Bool
 is_listed usual name elements = is_bare usual
 
--- A usual name, and the list in full that it is for.
+-- A usual name, and the full list that it replaces.
 pub record IsUsual (name list : List ℕ) : Type 0 where
   pub std : StdName
   pub alias : Alias
@@ -46,8 +46,8 @@ pub record IsUsual (name list : List ℕ) : Type 0 where
 abbrev pub is_no_front : (name text : List ℕ) → Bool
 is_no_front name text = list_all is_name_byte name && not (starts_with nat_eq text name)
 
--- each usual name with which a name begins is its first `size` bytes, before a member that is no constructor, or a letter comes
--- after it
+-- each usual name with which a name begins either is the name's first `size` bytes, before a member that is no constructor, or
+-- is followed by a letter
 unfoldable pub is_only_before : List Alias → (size : ℕ) → List ℕ → Bool
 is_only_before rows size name =
     list_all (λ row. not (starts_with nat_eq name (text_of row.name))
@@ -87,7 +87,8 @@ are_clear rows name more =
     list_all (λ row. not (starts_with nat_eq name (text_of row.name))
     || (nat_le (length (text_of row.name) + 3) (length (name ++ more)) && list_all is_name_byte (last_part (text_of row.template)))) rows
 
--- A constructor or destructor comes after a usual name, by the name of its class, or after its list, by the name of the template.
+-- A constructor or destructor comes after a usual name, under the name of the class, or after its list, under the name of the
+-- template.
 pub record IsConstructed (destructor : Bool) (name list class own : List ℕ) (alias : Alias) : Type 0 where
   pub std : StdName
   pub class_is : class_of alias ≡ class
@@ -110,13 +111,13 @@ pub record IsConstructed (destructor : Bool) (name list class own : List ℕ) (a
   pub own_after : is_constructor (front_of destructor ++ own) own ≡ true
   pub own_front : front_size (front_of destructor ++ own) ≡ length (front_of destructor)
 
--- Parts of a text, and between them usual names or the lists that those are for.
+-- Parts of a text, and between them usual names or the lists that these names replace.
 pub data Whole : Type 0 where
   last_parts : (parts : Parts) → Whole
   usual_then : (parts : Parts) → (is_list : Bool) → (name list : List ℕ) → (rest : Whole) → Whole
   -- a usual name or its list, and the name of a member after it
   member_then : (parts : Parts) → (is_list : Bool) → (name list member : List ℕ) → (rest : Whole) → Whole
-  -- a usual name or its list, and a constructor or destructor after it, by the name of the class or of the template
+  -- a usual name or its list, and a constructor or destructor after it, under the name of the class or of the template
   constructor_then : (parts : Parts) → (is_list destructor : Bool) → (name list class own : List ℕ) → (rest : Whole) → Whole
 
 -- what is written for parts and usual names
@@ -128,7 +129,7 @@ whole_written for_list usual (member_then parts is_list name list member rest) =
 whole_written for_list usual (constructor_then parts is_list destructor name list class own rest) =
     written for_list parts ++ (usual is_list name list ++ (front_of destructor ++ (usual is_list class own ++ whole_written for_list usual rest)))
 
--- a usual name or its list, as it is; likewise the constructor's name by the class or by the template
+-- a usual name or its list, as it is; likewise the constructor's name, which is that of the class or of the template
 abbrev pub one_of : Bool → (name list : List ℕ) → List ℕ
 one_of is_list name list = if is_list then list else name
 

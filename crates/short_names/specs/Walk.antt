@@ -1,16 +1,16 @@
--- How a text is gone through from the inside out, by rules for names and for lists.
+-- How a text is walked through from the inside out, by rules for names and for lists.
 use Rattle.std.specs.Prelude.{◌≡◌, ℕ, zero, suc, List, [], ◌∷◌, ◌++◌, ◌+◌, ◌-◌, Bool, true, false, ◌==◌, ◌&&◌, ◌||◌, nat_eq, length, take, drop, codes, Option, None, Some, if◌then◌else◌}
 use Rattle.std.specs.List.{starts_with}
 use Rattle.short_names.specs.Runs.{is_name_byte, run_of, operator_size}
 
--- What is written in the place of a part of a text, and how many bytes that follow it are written with it.
+-- What is written in place of a part of a text, and how many of the bytes after that part are written with it.
 pub record Answer : Type 0 where
   pub bytes : List ℕ
   pub size : ℕ
 
--- Rules: which names have lists that are changed; what is written for another name that is changed, by the text after it, and
--- how many bytes from the name's first on it replaces; and what is written for a name and its list, by the list's elements and
--- the text after it. A list after any other name counts as a list without a name.
+-- Rules: which names have lists that are changed; what is written for another name that is changed, by the text after the
+-- name, and how many bytes this replaces, from the name's first on; and what is written for a name and its list, by the list's
+-- elements and the text after the list. A list after any other name counts as a list without a name.
 pub record Rules : Type 0 where
   pub opens : (run : List ℕ) → Bool
   pub for_name : (run rest : List ℕ) → Option Answer
@@ -55,7 +55,7 @@ opens bracket name written = Some (record {
   written = record { opened = record { bracket = bracket; name = name; before = written.last; elements = [] } ∷ written.opened; last = [] };
 })
 
--- the operator's sign after a run, which is no bracket; outside of brackets none is needed
+-- the operator's sign after a run, if the sign is no bracket; outside of brackets no sign is needed
 abbrev pub sign_of : List Opened → (run rest : List ℕ) → List ℕ
 sign_of [] run rest = []
 sign_of (top ∷ around) run rest = take (operator_size run rest) rest
@@ -76,7 +76,7 @@ abbrev pub closes_list : Rules → Opened → List Opened → (last rest : List 
 closes_list rules list around last rest =
     answers 1 (rules.for_list list.name (list.elements ++ last ∷ []) rest) (record { opened = around; last = list.before })
 
--- another closing bracket closes the innermost one, if that is no list's
+-- another closing bracket closes the innermost open one, unless that one is a list's
 abbrev pub closes_group : Opened → List Opened → ℕ → List ℕ → Option Stepped
 closes_group group around byte last = keeps (byte ∷ []) (record { opened = around; last = group.before ++ group.bracket ∷ last })
 
@@ -92,7 +92,7 @@ is_opening byte = byte == 60 || byte == 40 || byte == 91 || byte == 123
 abbrev pub is_closing : ℕ → Bool
 is_closing byte = byte == 41 || byte == 93 || byte == 125
 
--- A byte that isn't of a name, within a bracket, with the text that begins with it. An arrow is no bracket.
+-- A byte that belongs to no name, within a bracket, with the text that begins with that byte. An arrow is no bracket.
 unfoldable pub at_sign : Rules → Opened → List Opened → (byte : ℕ) → (rest : List ℕ) → Written → Option Stepped
 at_sign rules top around byte rest written =
     if is_opening byte then opens byte [] written
@@ -102,12 +102,12 @@ at_sign rules top around byte rest written =
     else (if starts_with nat_eq (byte ∷ rest) (codes "->") then keeps (codes "->") written
     else keeps (byte ∷ []) written))))
 
--- a byte that isn't of a name; outside of brackets it is written as it is
+-- a byte that belongs to no name; outside of brackets it is written as it is
 abbrev pub at_byte : Rules → List Opened → (byte : ℕ) → (rest : List ℕ) → Written → Option Stepped
 at_byte rules [] byte rest written = keeps (byte ∷ []) written
 at_byte rules (top ∷ around) byte rest written = at_sign rules top around byte rest written
 
--- A piece of a text that isn't empty: a run of bytes of names, or a sign.
+-- A piece of a nonempty text: a run of bytes of names, or a sign.
 unfoldable pub stepped : Rules → (byte : ℕ) → (rest : List ℕ) → Written → Option Stepped
 stepped rules byte rest written =
     let run = run_of (byte ∷ rest) in
@@ -116,7 +116,7 @@ stepped rules byte rest written =
 
 -- ## A text
 
--- What is written for a text after some bytes of it that were written before; none where its brackets don't pair.
+-- What is written for a text whose first `skipped` bytes were written before; none if the text's brackets don't pair.
 unfoldable pub written_for : Rules → (skipped : ℕ) → List ℕ → Written → Option Written
 written_for rules skipped [] written = Some written
 written_for rules (suc skipped) (byte ∷ text) written = written_for rules skipped text written

@@ -1,4 +1,4 @@
--- What has been written of a short text at a place of its text, by the lists that it is written with.
+-- What has been written of a short text at a place of the original text, by the writer's lists.
 use Rattle.std.specs.Prelude.{◌≡◌, ◌≤◌, ◌<◌, ℕ, List, [], ◌∷◌, ◌++◌, ◌+◌, ◌-◌, Bool, true, false, length, take, drop, get_or, codes, slice_get, Option, None, Some, Result, IfOk, OnOk}
 use Rattle.short_names.specs.declared.writing.Listed.{Listed}
 use Rattle.short_names.specs.declared.writing.Bracket.{Bracket}
@@ -34,7 +34,7 @@ abbrev pub IsListed : (name : List ℕ) → Option Listed → Type 0
 IsListed name None = named_in name ≡ None
 IsListed name (Some listed) = (listed.row < length TEMPLATES) × (named_in name ≡ with_template listed.whole (slice_get TEMPLATES listed.row))
 
--- an open bracket; before it come the text before its element, and the elements around it that have begun
+-- an open bracket; the text before its element, and the elements around the bracket that have begun, come before it
 pub record IsOpen (top : Opened) (before : List ℕ) (bracket : Bracket) (earlier : ℕ) (starts : List ℕ) : Type 0 where
   pub kind : bracket.is_list ≡ is_list top
   pub named : IsListed top.name bracket.named
@@ -58,7 +58,8 @@ abbrev pub AreOpen : List Opened → List Bracket → List ℕ → Type 0
 AreOpen [] brackets starts = (brackets ≡ []) × (starts ≡ [])
 AreOpen (top ∷ around) brackets starts = IsInnermost (AreOpen around) top (before_last around) brackets starts
 
--- The lists hold what was written up to a place of the text. Bytes before that place that weren't copied yet belong to it.
+-- The lists hold what was written up to a place of the text. This includes the bytes before that place that weren't copied
+-- yet.
 pub record IsAt (text : List ℕ) (now : Writing) (written : Written) : Type 0 where
   pub goes_on : written_for short_rules 0 (drop now.at text) written ≡ written_for short_rules 0 text start
   pub copied : now.copied ≤ now.at
@@ -132,7 +133,7 @@ pub record IsPending (text : List ℕ) (now : Writing) (list : Bracket) (listed 
 abbrev pub CanClose : (text : List ℕ) → Writing → Bracket → Listed → Type 0
 CanClose text now list listed = (before : List ℕ) × (name : List ℕ) × (elements : List (List ℕ)) × IsPending text now list listed before name elements
 
--- what is written for a name and its list is after that text
+-- what is written for a name and its list comes after the text before the name
 abbrev pub answer_of : (text : List ℕ) → (at : ℕ) → (name : List ℕ) → (elements : List (List ℕ)) → Answer
 answer_of text at name elements = for_list (named_in name) name elements (drop (at + 1) text)
 

@@ -9,7 +9,7 @@ use crate::patterns::text_at;
 use crate::table::{ALIASES, Alias, Place, STD, STRING, STRING_LIST, STRING_TEMPLATE};
 use std::alloc::AllocError;
 
-/// Closes a list of a name of the table, by the places of a text where its bracket is and where its elements begin. Answers how
+/// Closes a list of a name of the table, given the places in a text where the list's bracket is and where its elements begin. Answers how
 /// many of the bytes that follow the list are written with it.
 pub(crate) fn close(
     text: &mut Vec<u8>,
@@ -64,7 +64,7 @@ fn is_read_back(alias: Alias, rest: &[u8]) -> bool
     ends_name(rest) && is_own(alias, rest)
 }
 
-/// Whether a name of the table and the list that follows it become `std::string`. Its list is the most frequent by far.
+/// Whether a name of the table and the list that follows it become `std::string`. The list of `std::string` is the most frequent by far.
 #[inline(always)]
 pub(crate) fn is_string(whole: Place, row: usize, rest: &[u8]) -> bool
     ensures { result ≡ true → IsString whole row rest.now }

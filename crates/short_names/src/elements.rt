@@ -9,8 +9,8 @@ use crate::names::Named;
 use crate::patterns::{Holes, is_filled, text_at};
 use crate::table::{ALIASES, Alias, DEFAULTS};
 
-/// Elements of a list in a text that ends with the last of them, by where each begins. There is at least one, and `, ` is
-/// between two.
+/// Elements of a list in a text that ends with the last of them, by where each begins. There is at least one element, and `, ` separates
+/// neighbours.
 #[derive(Clone, Copy)]
 pub(crate) struct Elements<'a> {
     pub text: &'a [u8],
@@ -33,7 +33,7 @@ impl<'a> Elements<'a> {
         }
     }
 
-    /// The element in a place; empty if there is none.
+    /// The element at a place; empty if there is none.
     fn at(self, place: usize) -> &'a [u8]
         requires { (elements : List (List ℕ)) × AreElements self.text.now self.starts.now elements }
         ensures { (elements : List (List ℕ)) → AreElements self.entry.text.now self.entry.starts.now elements → result.now ≡ element elements place }
@@ -64,7 +64,7 @@ impl<'a> Elements<'a> {
         }
     }
 
-    /// Whether the element in a place is the default that a name of the table has there.
+    /// Whether the element at a place is the default that a name of the table has there.
     fn is_default(self, named: Named, holes: Holes<'a>, place: usize) -> bool
         requires { (elements : List (List ℕ)) × (AreElements self.text.now self.starts.now elements) × (AreHoles named elements holes) }
         ensures { (elements : List (List ℕ)) → AreElements self.entry.text.now self.entry.starts.now elements → AreHoles named elements holes.entry →

@@ -10,7 +10,7 @@ ghost use Rattle.short_names.specs.Usual.{GoesOn, IsConstructed, IsUsual, IsWhol
 ghost use Rattle.short_names.specs.Walk.{Pairs};
 ghost use Rattle.short_names.specs.declared.table.TheConstants.{ALIASES};
 
-/// No short text is longer than its text.
+/// No short text is longer than the text that it is made from.
 pub fn short_texts_are_no_longer()
     ensures { (keeps_inline : Bool) (text : List ℕ) → IsNoLonger keeps_inline text }
 {}
@@ -22,15 +22,15 @@ pub fn alike_texts_are_alike()
         → Pairs (full_rules (full_to 3)) text → Pairs (full_rules (full_to 3)) other → AreAlike text other }
 {}
 
-/// A text in which no name begins with `std::` is both its short text and its full text, so short texts keep full ones there, and full texts
-/// keep short ones.
+/// A text in which no name begins with `std::` is both its short text and its full text. So short texts keep full ones there, and full
+/// texts keep short ones.
 pub fn texts_without_std_stay()
     ensures stays { (text : List ℕ) → HasNoStd text → (short text ≡ text) × (full text ≡ text) }
     ensures laws { (text : List ℕ) → HasNoStd text → KeepsFull text × KeepsShort text }
 {}
 
-/// A text in which no name is one of the table, though some may begin with `std::`, is both its short text and its full text, so short texts keep
-/// full ones there, and full texts keep short ones.
+/// A text in which no name is one of the table, though some may begin with `std::`, is both its short text and its full text. So short
+/// texts keep full ones there, and full texts keep short ones.
 pub fn texts_without_rows_stay()
     ensures stays { (text : List ℕ) → HasNoRow text → (short text ≡ text) × (full text ≡ text) }
     ensures laws { (text : List ℕ) → HasNoRow text → KeepsFull text × KeepsShort text }
@@ -50,9 +50,10 @@ pub fn texts_of_lists_keep()
     ensures full { IsMade (codes "std::vector<std::__cxx11::basic_string<char, std::char_traits<char>, std::allocator<char>>>") }
 {}
 
-/// Likewise in a text that has usual names, or the full lists that these are for, outside of its other lists. Such a name or
-/// list is followed by no list, and by no name but a member's, or a constructor's or destructor's: the class's after a name,
-/// the template's after a list. So two such texts have equal short texts exactly if their full texts are equal.
+/// Likewise in a text that has usual names, or the full lists that these abbreviate, outside of its other lists. No list follows such a
+/// name or list, and no name follows it except that of a member, a constructor or a destructor. A constructor or destructor has the class's
+/// name after a usual name, and the template's name after a list. So two such texts have equal short texts exactly if their full texts are
+/// equal.
 pub fn texts_of_usual_names_keep()
     ensures laws { (text : List ℕ) → IsWhole text → KeepsFull text × KeepsShort text }
     ensures alike { (text other : List ℕ) → IsWhole text → IsWhole other → AreAlike text other }

@@ -127,15 +127,15 @@ fn behind_part(name: &[u8]) -> &[u8]
     name
 }
 
-/// A name of `std`: its `std::`, with the inline namespace that holds all of `std` if there is one, and what comes after it, without the
-/// inline namespace that holds a part of `std`.
+/// A name of `std`, in two parts: its `std::`, and what comes after that. The first part has the inline namespace that holds all of `std`,
+/// if there is one. The second part lacks the inline namespace that holds a part of `std`.
 #[derive(Clone, Copy)]
 struct StdName<'a> {
     whole: Place,
     name: &'a [u8],
 }
 
-/// The name of `std` that a run is, where an inline namespace may come after `std::`.
+/// A run as a name of `std`, where an inline namespace may come after `std::`.
 #[inline(never)]
 fn inline_name(run: &[u8]) -> Option<StdName<'_>>
     ensures { MatchOption result (std_name run.now ≡ None) (λ it. std_name run.now ≡ Some (record { whole = it.whole; name = it.name.now })) }
@@ -150,7 +150,7 @@ fn inline_name(run: &[u8]) -> Option<StdName<'_>>
     }
 }
 
-/// The name of `std` that a run is, where the run begins with `std::`.
+/// A run that begins with `std::`, as a name of `std`.
 #[inline(always)]
 fn std_name(run: &[u8]) -> Option<StdName<'_>>
     requires { begins_std run.now ≡ true }
@@ -256,11 +256,12 @@ pub(crate) enum Change {
     Nothing,
     /// The list that follows a name of the table, by the name's `std::` and the row of its template.
     List { whole: Place, row: usize },
-    /// A constructor or destructor that follows a usual name, by the row of that name, and how many bytes come before its end.
+    /// A constructor or destructor that follows a usual name, by the row of that name, and how many bytes come before that name's end.
     Member { row: usize, size: usize },
 }
 
-/// Whether a name may begin with a usual name that a member's name follows: not if it has no colon.
+/// Whether a name may begin with a usual name that a member's name follows: a name without a colon
+/// can't.
 #[inline(always)]
 fn may_have_member(name: &[u8]) -> bool
     ensures { result ≡ false → (text : List ℕ) → name.now ≡ run_of text → member_in ALIASES name.now text ≡ None }
@@ -271,8 +272,8 @@ fn may_have_member(name: &[u8]) -> bool
     }
 }
 
-/// Whether a usual name comes first in a name, which is the run at a text's front, and a constructor or destructor by the
-/// template's name follows it.
+/// Whether a name, which is the run at a text's front, begins with a usual name, followed by a constructor or destructor with the
+/// template's name.
 #[inline(always)]
 fn is_member(alias: Alias, name: &[u8], text: &[u8]) -> bool
     requires { name.now ≡ run_of text.now }
@@ -284,7 +285,7 @@ fn is_member(alias: Alias, name: &[u8], text: &[u8]) -> bool
         && is_constructor(&text[usual.len()..], last_part(text_at(alias.template)))
 }
 
-/// The row of the usual name that comes first in a name before a constructor's or destructor's name.
+/// The first row with a usual name that begins a name and precedes a constructor's or destructor's name.
 fn member_row(name: &[u8], text: &[u8]) -> Option<usize>
     requires { name.now ≡ run_of text.now }
     ensures { MatchOption result (member_in ALIASES name.now text.now ≡ None)

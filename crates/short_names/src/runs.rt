@@ -7,7 +7,7 @@ ghost use Rattle.short_names.specs.Short.{shortened};
 
 use std::simd::prelude::*;
 
-// For each byte `1` if it may be in a name without `::`, else `0`.
+// For each byte, `1` if it may be in a name without `::`, else `0`.
 static LETTERS: [u8; 256] = *b"\
     00000000000000000000000000000000\
     00001000000000101111111111000000\
@@ -49,7 +49,7 @@ fn first_set(mask: u64) -> usize
     }
 }
 
-/// How many of the sixteen bytes from a place on come before the first that is of no name.
+/// How many of the sixteen bytes from a place on come before the first that can't be in a name.
 #[inline(always)]
 fn name_lanes(text: &[u8], at: usize) -> usize
     requires { at + 16 ≤ length text.now }
@@ -68,7 +68,7 @@ fn name_lanes(text: &[u8], at: usize) -> usize
     first_set(stops.to_bitmask())
 }
 
-/// A number of bytes at the front of a text that are all of names, found sixteen at a time.
+/// A number of bytes at the front of a text that may all be in a name, found sixteen at a time.
 #[inline(always)]
 fn lanes_run(text: &[u8]) -> usize
     ensures within { result ≤ length text.now }
@@ -85,7 +85,7 @@ fn lanes_run(text: &[u8]) -> usize
     size
 }
 
-/// How many bytes at the front of a text are of names.
+/// How many bytes at the front of a text are bytes of names.
 #[inline(always)]
 fn run_size(text: &[u8]) -> usize
     ensures within { result ≤ length text.now }
@@ -118,7 +118,8 @@ fn ends_operator(run: &[u8]) -> bool
     run.ends_with(b"operator") && (run.len() == 8 || !is_letter(run[run.len() - 9]))
 }
 
-/// The size of an operator's sign with `<` or `>`, or of an arrow, with which a text begins, or 0.
+/// The size of the operator's sign with `<` or `>`, or of the arrow, with which a text begins; 0 if
+/// there is none.
 #[tactic(auto, unfolding(crate::specs::Runs::sign_size))]
 fn sign_size(text: &[u8]) -> usize
     ensures { result ≡ sign_size text.now }
@@ -149,10 +150,10 @@ pub(crate) fn operator_size(run: &[u8], rest: &[u8]) -> usize
 /// How many places are looked at together for `std::`.
 const BLOCK: usize = 64;
 
-/// The last byte that is looked at for a place is this many bytes after it.
+/// The last byte that is looked at for a place is this many bytes after the place.
 const REACH: usize = 3;
 
-/// The 64 places from one on, a bit for each: set if `d:` comes two bytes later, so that `std::` may begin.
+/// A bit for each of the 64 places from a place on, set if `d:` comes two bytes after it, so that `std::` may begin there.
 #[inline(always)]
 fn block_bits(text: &[u8], at: usize) -> u64
     requires { at + 67 ≤ length text.now }
@@ -238,7 +239,7 @@ pub(crate) fn std_run(text: &[u8], from: usize) -> Option<usize>
     None
 }
 
-/// Whether a text has a run that begins with `std::`. One without such a run is as short as it can be.
+/// Whether a text has a run that begins with `std::`. A text without such a run is as short as it can be.
 pub fn has_std(text: &[u8]) -> bool
     ensures { result ≡ false → (keeps_inline : Bool) → shortened keeps_inline text.now ≡ text.now }
 {

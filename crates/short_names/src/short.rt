@@ -6,7 +6,7 @@ use crate::inlines::append_without;
 use crate::writing::Writing;
 use std::alloc::{AllocError, Global};
 
-/// What makes texts short, with the lists that it works on.
+/// The lists with which texts are made short.
 #[derive(Drop)]
 pub struct Short {
     /// The text that is made short.

@@ -1,4 +1,4 @@
-// A short text that is written.
+// A short text that is being written.
 ghost use Rattle.std.specs.Prelude.{◌≡◌, ◌≤◌, ◌<◌, ◌++◌, ◌+◌, ◌-◌, ◌^◌, ◌∷◌, [], ℕ, List, length, take, drop, get_or, IfOk, OnOk, Bool, true, false, if◌then◌else◌};
 ghost use Rattle.short_names.specs.Runs.{is_name_byte};
 ghost use Rattle.short_names.specs.Short.{short};
@@ -28,8 +28,8 @@ fn is_closing(byte: u8) -> bool
     byte == b')' || byte == b']' || byte == b'}'
 }
 
-/// An open bracket: whether it is that of an argument list, the name of the table before the list, where the bracket is in the
-/// text that is written, and how many elements began before it.
+/// An open bracket: whether it opens an argument list, the name of the table before that list, where the bracket is in the written text,
+/// and how many elements began before it.
 #[derive(Clone, Copy)]
 pub(crate) struct Bracket {
     pub is_list: bool,
@@ -45,16 +45,16 @@ pub(crate) struct Listed {
     pub row: usize,
 }
 
-/// A short text that is written, at a place of its text.
+/// A short text that is being written, and the place that is reached in the text it is made of.
 #[derive(Drop)]
 pub(crate) struct Writing {
-    /// The place in the text that is looked at.
+    /// The place that is reached in the text.
     pub at: usize,
     /// How much of the text was written or left out.
     pub copied: usize,
     /// What was written.
     pub out: Vec<u8>,
-    /// The brackets that are open, from that of the first list of a name of the table on.
+    /// The open brackets. The first is that of a list after a name of the table.
     pub brackets: Vec<Bracket>,
     /// Where the elements within open brackets begin, in the text that is written.
     pub starts: Vec<usize>,
@@ -101,7 +101,7 @@ impl Writing {
         self.starts.clear();
     }
 
-    /// Writes what was looked at.
+    /// Writes the part of the text that was looked at and isn't written yet.
     fn copy(&mut self, text: &[u8]) -> Result<(), AllocError>
         requires { (self.old.copied ≤ self.old.at) × (self.old.at ≤ length text.now) }
         ensures out { OnOk result (self.new.out.items ≡ self.old.out.items ++ take (self.old.at - self.old.copied) (drop self.old.copied text.now)) }
@@ -132,7 +132,7 @@ impl Writing {
         self.step_sign(text, byte)
     }
 
-    /// Goes over the next name that becomes shorter or may do so, outside of brackets, or to the end of the text.
+    /// Goes over the next name that becomes or may become shorter, outside of brackets; if there is none, goes to the end of the text.
     fn step_outside(&mut self, text: &[u8]) -> Result<(), AllocError>
         requires { CanStep text.now self.old × (self.old.brackets.items ≡ []) }
         ensures { GoesFrom text.now self.old self.new result }
@@ -163,7 +163,7 @@ impl Writing {
         Ok(())
     }
 
-    /// Goes over a run of a size that begins with `std::`, with what becomes shorter there.
+    /// Goes over a run of this size that begins with `std::`, and applies the change.
     fn change(&mut self, text: &[u8], size: usize, change: Change) -> Result<(), AllocError>
         requires { CanChange text.now self.old size change }
         ensures { GoesFrom text.now self.old self.new result }
@@ -186,7 +186,7 @@ impl Writing {
         }
     }
 
-    /// Writes `std::string` for a run of a size and the list that follows it, and the constructor or destructor after them.
+    /// Writes `std::string` for a run of this size and the list that follows it, then the constructor or destructor after the list.
     fn write_string(&mut self, text: &[u8], size: usize) -> Result<(), AllocError>
         requires { IsAtString text.now self.old size }
         ensures { GoesFrom text.now self.old self.new result }
@@ -215,7 +215,7 @@ impl Writing {
         Ok(())
     }
 
-    /// Goes over a byte that isn't of a name, within brackets; answers whether brackets pair so far.
+    /// Goes over a byte that can't be in a name, within brackets; answers whether brackets pair so far.
     fn step_sign(&mut self, text: &[u8], byte: u8) -> Result<bool, AllocError>
         requires { CanStep text.now self.old × (byte ≡ get_or text.now self.old.at 0) × (is_name_byte byte ≡ false) × (0 < length self.old.brackets.items) }
         ensures { StepsFrom text.now self.old self.new result }

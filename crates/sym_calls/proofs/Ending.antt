@@ -1,4 +1,4 @@
--- How a call ends, by what was answered.
+-- How a call ends, depending on what was answered.
 use Rattle.sym_calls.proofs.Basics.{◌≡◌, ◌≢◌, ◌≤◌, inl, inr, ℕ, ◌-◌, Bool, true, false, cond, List, [], ◌++◌, length, take, drop, Option, Some, Result, Ok, Err, refl, sym, ap, subst, ◌∙◌, arith, nat_le, IfSome, ◌==◌, length-drop, take_all, Refusal, Malformed, BadReference, BadValue, TooLong, Memory, Detail, AreBytes, Mangled, IsAnswer, answer, Kind, symbol_of, answer_of, answers_by, cpp_by, wide_answer_of, pressed_of, AreCountsOf, AreWideCountsOf, Answering, filtered_at, tally_at, Asked, Outcome, answers_as, CountingEndsAs, CountingEndsBy, Ending, EndsAs, IsCounted, IsTallied, IsTextWritten, NameCounted, PressEndsAs, Tallied, answered, answers_at, filter_told, ending_of, named, name_or_type_told, name_told, numbers_of, press_told, refused, status_alone, text_told, told_of, unspelled, written}
 use Rattle.sym_core.specs.declared.counts.Counts.{Counts}
 use Rattle.sym_demangle.proofs.Answering.{is_answer}
@@ -88,11 +88,11 @@ pub name-ends : (answers : Answering) (asked : Asked) (name buffer : List ℕ) (
 unfolding told_of
 name-ends answers asked name buffer kind found is ends = subst (λ r. EndsAs (told_of answers r name buffer) buffer found) (sym is) ends
 
--- a symbol for whose lists there is no memory
+-- there is no memory for the symbol's lists
 pub no-symbol-lists : (answer : Result (List ℕ) Refusal) (skip : ℕ) (buffer : List ℕ) (found : Ending) → found ≡ status_alone 5 buffer → EndsAs (answered answer skip buffer) buffer found
 no-symbol-lists answer skip buffer found told = inr (answered-low answer skip buffer, told)
 
--- a name for whose lists there is no memory
+-- there is no memory for the name's lists
 pub no-lists-end : (answers : Answering) (asked : Asked) (name buffer : List ℕ) (kind : Kind) (found : Ending) → named asked.underscore name ≡ Ok kind
     → found ≡ status_alone 5 buffer → EndsAs (name_told answers asked name buffer) buffer found
 no-lists-end answers asked name buffer kind found is told = name-ends answers asked name buffer kind found is (no-symbol-lists _ kind.skip buffer found told)
@@ -117,7 +117,7 @@ press-ends option asked name buffer found is narrow ends =
     inl (subst (λ o. EndsAs (press_told o name buffer) buffer found) (sym is)
     (subst (λ b. EndsAs (cond b wide (name_told pressed_of asked name buffer)) buffer found) (sym narrow) ends))
 
--- a lack of memory may replace the outcome of a call that presses, also where the symbol has no spelling
+-- a lack of memory may replace the outcome of a call for a pressed spelling, also where the symbol has no spelling
 lacks-memory : (told : Ending) (buffer : List ℕ) (test : Bool) → test ≡ (told.status == 4) → told.status ≤ 6
     → PressEndsAs (cond test (status_alone 12 told.buffer) told) buffer (status_alone 5 buffer)
 lacks-memory told buffer true is low = inr (refl, refl)
@@ -156,7 +156,7 @@ counting-ends option asked kind name wide old new found is same known ends =
     (subst (λ r. NameCounted asked.wide r name old new found) (sym known)
     (subst (λ w. CountingEndsBy w kind (symbol_of kind name) old new found) (sym same) ends))
 
--- a text for whose lists there is no memory
+-- there is no memory for the text's lists
 pub no-filter-ends : (bytes buffer : List ℕ) (found : Ending) → found ≡ status_alone 5 buffer → EndsAs (written bytes buffer) buffer found
 no-filter-ends bytes buffer found told = inr (written-low bytes buffer, told)
 
@@ -188,7 +188,7 @@ pub read-counts : (answer : Result (List ℕ) Refusal) (are_counts : Counts → 
 unfolding IsCounted
 read-counts answer are_counts skip old new read found told same are = inl (told, subst are_counts (sym same) are)
 
--- a symbol for whose lists there is no memory
+-- there is no memory for the symbol's lists
 pub no-lists-count : (answer : Result (List ℕ) Refusal) (are_counts : Counts → Type 0) (skip : ℕ) (counts : SymbolCounts) (found : Ending)
     → found ≡ status_alone 5 [] → IsCounted answer are_counts skip counts counts found
 unfolding IsCounted

@@ -1,4 +1,4 @@
--- The bytes that are kept of a text while bytes are added to it.
+-- The bytes of a text that are kept while bytes are added to it.
 use Rattle.sym_calls.proofs.Basics.{◌≡◌, ◌+◌, ◌∙◌, ◌++◌, ◌∷◌, [], List, ℕ, true, false, sym, ap, subst, replicate, append_assoc, not, append-nil, replicate_more, not-true, not-false, cond-true, cond-false, following, Adds, Holds}
 use Rattle.sym_filter.specs.declared.words.Taken.{Taken}
 use Rattle.sym_calls.specs.declared.counted.Counted.{Counted}
@@ -6,7 +6,7 @@ use Rattle.sym_calls.specs.declared.counted.Counted.{Counted}
 pub Holds-as : (kept : Counted) (most : ℕ) (a b : List ℕ) → a ≡ b → Holds kept most a → Holds kept most b
 Holds-as kept most a b same h = subst (λ (t : List ℕ). Holds kept most t) same h
 
--- what follows taken bytes: only the dots where these bytes don't stay, and the dots and the bytes where they do
+-- what follows taken bytes: only the dots if these bytes don't stay, and otherwise the dots and the bytes
 pub following-dots : (taken : Taken) (bytes : List ℕ) → not taken.stay ≡ true → replicate taken.dots 46 ≡ following taken bytes
 following-dots taken bytes h = sym (ap (λ (t : List ℕ). replicate taken.dots 46 ++ t) (cond-false taken.stay bytes [] (not-true taken.stay h)) ∙ append-nil (replicate taken.dots 46))
 

@@ -1,4 +1,4 @@
--- What a call for a text with parts writes, by whether the text and the parts have room.
+-- What a call for a text with parts writes, depending on whether the text and the parts have room.
 use Rattle.sym_calls.proofs.Basics.{◌≡◌, ◌≤◌, ◌⊎◌, inl, inr, ℕ, List, length, drop, map, ◌++◌, Bool, true, false, Option, Some, None, Result, Ok, Err, ap, sym, subst, ◌∙◌, arith, ◌&&◌, nat_le, not, if◌then◌else◌, length-map, Refusal, Malformed, BadReference, BadValue, TooLong, Memory, Detail, Mangled, Kind, symbol_of, cpp_by, Marking, Parsed, Parsing, cpp_marking, parsed_by, mangling_number, mangling_of, Ending, named, refused, status_alone, PartsEndAs, PartsEnding, both_written, is_whole, name_parts_told, none_found, numbered, parsed_told, parts_of_kind, parts_told, reported, without_text, Asked}
 use Rattle.sym_parts.specs.declared.part.Part.{Part}
 use Rattle.sym_calls.specs.declared.parts.NameFound.{NameFound}
@@ -48,7 +48,7 @@ both-full-end parsed mangling buffer buffer' parts parts' found size fits sizes 
     ∙ ap (λ f. record { ending = record { status = 0; buffer = parsed.text ++ drop (length parsed.text) buffer; length = length parsed.text; offset = 0 }; parts = map numbered parsed.parts ++ drop (length parsed.parts) parts; found = f }) is
     ∙ sym (both-full parsed mangling buffer parts fits))
 
--- if the parts that are put are the text's, numbered, these are at the front
+-- if the parts that are put are the text's numbered parts, these are at the front
 pub put-numbered : (given list put parts : List NamePart) (found : List Part) → given ≡ list → list ≡ map numbered found → put ≡ given ++ drop (length given) parts → put ≡ map numbered found ++ drop (length found) parts
 put-numbered given list put parts found is lists puts =
     puts ∙ ap (λ l. l ++ drop (length l) parts) (is ∙ lists) ∙ ap (λ n. map numbered found ++ drop n parts) (length-map found numbered)
@@ -125,7 +125,7 @@ no-name-parts-end parses asked name buffer parts status found ending is none tol
     subst (λ (n : Result Kind ℕ). PartsEndAs (parts_of_kind parses asked.legacy n name buffer parts) buffer parts (record { ending = ending; parts = parts; found = found })) (sym is)
     (inl (none-ends ending parts found none ∙ ap (λ e. without_text e parts) told))
 
--- a fact of the answers with parts, where it is known whether legacy Rust names are paths
+-- a fact about the answers with parts, where it is known whether legacy Rust names are paths
 pub parses-as-legacy : {W : Type 0} (P : Parsing → Type 0) (cpp : Mangled W) (marking : Marking W) (asked : Asked) (legacy : Bool) (limit limit' : ℕ) (detail : Detail) → asked.legacy ≡ legacy → limit' ≡ limit → detail ≡ asked.detail
     → P (parsed_by cpp marking legacy limit' detail) → P (parsed_by cpp marking asked.legacy limit asked.detail)
 parses-as-legacy P cpp marking asked legacy limit limit' detail is limits details h =
@@ -151,7 +151,7 @@ no-parts-end asked one limit name buffer parts found ending is other none told =
     (inl (none-ends ending parts found none ∙ ap (λ e. without_text e parts) told
     ∙ sym (ap (λ b. if b then name_parts_told (parsed_by (cpp_by one.wide) cpp_marking one.legacy limit one.detail) one name buffer parts else without_text (status_alone 8 buffer) parts) other)))
 
--- with the grammar that is requested
+-- a call with the grammar that is requested
 pub asked-parts-end : (asked : Option Asked) (one : Asked) (wide : Bool) (limit : ℕ) (name buffer : List ℕ) (parts : List NamePart) (ended : PartsEnding) → asked ≡ Some one → (is_whole one.texts && not one.types) ≡ true → one.wide ≡ wide
     → PartsEndAs (name_parts_told (parsed_by (cpp_by wide) cpp_marking one.legacy limit one.detail) one name buffer parts) buffer parts ended → PartsEndAs (parts_told asked limit name buffer parts) buffer parts ended
 unfolding parts_told

@@ -8,7 +8,7 @@ both : (a b : Bool) → a && b ≡ true → (a ≡ true) × (b ≡ true)
 both true b holds = (refl, holds)
 both false b holds = cc
 
--- after an end that doesn't decrease, the ends behind it decide
+-- after an end that doesn't decrease, the ends that follow it decide
 pub ends-on : (from most : ℕ) (ends : List ℕ) (i : ℕ) → i < length ends → from ≤ get_or ends i 0 → are_ends from most (drop i ends) ≡ are_ends (get_or ends i 0) most (drop (i + 1) ends)
 unfolding are_ends
 ends-on from most ends i within up = ap (λ l. are_ends from most l) (drop_more ends i 0 within) ∙ ap (λ b. b && are_ends (get_or ends i 0) most (drop (i + 1) ends)) (le-leb from (get_or ends i 0) up)
@@ -24,7 +24,7 @@ ends-within from most [] is = leb-true from most is
 ends-within from most (end ∷ ends) is =
     let first : from ≤ end = leb-true from end (both _ _ is).0 in let rest : end ≤ most = ends-within end most ends (both (nat_le from end) (are_ends end most ends) is).1 in omega (arith, first, rest)
 
--- a name ends where it begins or later and within all names, and the ends behind it are right
+-- a name ends at or after its beginning and within all names, and the ends that follow are right
 pub ends-at : (from most : ℕ) (ends : List ℕ) (i : ℕ) → i < length ends → are_ends from most (drop i ends) ≡ true
     → (from ≤ get_or ends i 0) × (get_or ends i 0 ≤ most) × (are_ends (get_or ends i 0) most (drop (i + 1) ends) ≡ true)
 unfolding are_ends

@@ -120,7 +120,8 @@ unfoldable pub text_told : Option Asked → (limit : ℕ) → (name buffer : Lis
 text_told None limit name buffer = status_alone 8 buffer
 text_told (Some asked) limit name buffer = name_or_type_told (answers_at asked limit) asked name buffer
 
--- A symbol that is read and has no pressed spelling (4, since pressing has no limit) has a status of its own.
+-- A symbol that is read but has no pressed spelling gets a status of its own. It replaces 4, which means nothing else
+-- here, since pressing has no limit.
 unfoldable pub unspelled : Ending → Ending
 unspelled ending = if ending.status == 4 then status_alone 12 ending.buffer else ending
 
@@ -139,7 +140,8 @@ filter_told (Some asked) limit text buffer = written (filtered_at asked.letters 
 abbrev pub EndsAs : (wanted : Ending) → (old_buffer : List ℕ) → (found : Ending) → Type 0
 EndsAs wanted old_buffer found = (found ≡ wanted) ⊎ ((wanted.status ≤ 6) × (found ≡ status_alone 5 old_buffer))
 
--- A call that presses ends as other calls do. It may also run out of memory where a symbol has no spelling (12).
+-- A call for a pressed spelling ends as other calls do. It may also run out of memory where a symbol has no spelling
+-- (12).
 abbrev pub PressEndsAs : (wanted : Ending) → (old_buffer : List ℕ) → (found : Ending) → Type 0
 PressEndsAs wanted old_buffer found = EndsAs wanted old_buffer found ⊎ ((wanted.status ≡ 12) × (found ≡ status_alone 5 old_buffer))
 
@@ -180,7 +182,7 @@ unfoldable pub NameCounted : (wide : Bool) → Result Kind ℕ → (name : List 
 NameCounted wide (Ok kind) name old new found = CountingEndsBy wide kind (symbol_of kind name) old new found
 NameCounted wide (Err status) name old new found = (new ≡ old) × (found ≡ status_alone status [])
 
--- How counting ends. Of what flags request, only the grammar and the underscore matter.
+-- How counting ends. Only the grammar and the underscore matter among what flags request.
 unfoldable pub CountingEndsAs : Option Asked → (name : List ℕ) → (old new : SymbolCounts) → Ending → Type 0
 CountingEndsAs None name old new found = (new ≡ old) × (found ≡ status_alone 8 [])
 CountingEndsAs (Some asked) name old new found = NameCounted asked.wide (named asked.underscore name) name old new found

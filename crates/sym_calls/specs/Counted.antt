@@ -1,4 +1,4 @@
--- The bytes that are kept of a text whose bytes are counted.
+-- The bytes that are kept of a counted text.
 use Rattle.std.specs.Prelude.{◌≡◌, ◌≤◌, ℕ, List, ◌++◌, length}
 use Rattle.sym_calls.specs.declared.counted.Counted.{Counted}
 

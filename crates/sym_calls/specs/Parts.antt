@@ -71,7 +71,7 @@ unfoldable pub is_whole : Texts → Bool
 is_whole texts.Whole = true
 is_whole _ = false
 
--- what is answered for symbols where flags request this; short texts and types have no parts (8)
+-- what is answered for symbols where flags request this; short texts and types have no parts (status 8)
 unfoldable pub parts_told : Option Asked → (limit : ℕ) → (name buffer : List ℕ) → (parts : List NamePart) → PartsEnding
 parts_told None limit name buffer parts = without_text (status_alone 8 buffer) parts
 parts_told (Some asked) limit name buffer parts =

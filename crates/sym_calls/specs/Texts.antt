@@ -5,7 +5,7 @@ use Rattle.sym_calls.specs.Calls.{EndsAs, answers_at, ending_of, name_or_type_to
 use Rattle.sym_calls.specs.declared.outcome.Outcome.{Outcome}
 use Rattle.sym_calls.specs.declared.flags.Asked.{Asked}
 
--- ends that increase, from one place on and up to at most another
+-- ends that increase from one place on, up to at most another place
 unfoldable pub are_ends : (from most : ℕ) → List ℕ → Bool
 are_ends from most [] = nat_le from most
 are_ends from most (end ∷ ends) = nat_le from end && are_ends end most ends
@@ -32,8 +32,8 @@ unfoldable pub TextsEndBy : (are_right : Bool) → Answering → Asked → (name
 TextsEndBy true answers asked names ends old new untold told status = (status ≡ 0) × AreTold answers asked names 0 ends old new told
 TextsEndBy false answers asked names ends old new untold told status = (status ≡ 10) × (new ≡ old) × (told ≡ untold)
 
--- How the call ends. Where one of the flags doesn't exist, the status is 8, and nothing is written. Otherwise the call ends by whether the
--- ends increase to at most the length of all names, and are as many as the outcomes.
+-- How the call ends. Where one of the flags doesn't exist, the status is 8, and nothing is written. Otherwise the ending depends on
+-- whether the ends increase to at most the length of all names and are as many as the outcomes.
 unfoldable pub TextsEndAs : Option Asked → (limit : ℕ) → (names ends old new : List ℕ) → (untold told : List Outcome) → (status : ℕ) → Type 0
 TextsEndAs None limit names ends old new untold told status = (status ≡ 8) × (new ≡ old) × (told ≡ untold)
 TextsEndAs (Some asked) limit names ends old new untold told status =

@@ -73,7 +73,7 @@ impl Counted {
 ///
 /// # Errors
 ///
-/// Where memory runs out.
+/// An error where memory runs out.
 pub(crate) fn filter_counted<D: Demangler>(
     alloc: Global,
     demangler: &D,

@@ -14,8 +14,8 @@ use sym_languages::languages::Cpp;
 use sym_languages::{Abi, Languages, Wide};
 use sym_print::Detail;
 
-/// The work that a symbol made: the rows of its shape, the nodes of the table in which its parts are shared, and the counted
-/// steps of reading it.
+/// The work that a symbol took: the rows of its shape, the nodes of the table in which its parts are shared, and the counted steps of
+/// reading it.
 #[repr(C)]
 #[derive(Clone, Copy)]
 pub struct SymbolCounts {

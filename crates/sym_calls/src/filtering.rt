@@ -93,7 +93,8 @@ fn filter_in<C: Cpp>(
     filter_as(alloc, languages, asked, text, buffer, tally)
 }
 
-/// Filters a text with a demangler, whose texts are made short if that is requested, and writes the result to the front of the buffer.
+/// Filters a text with a demangler and writes the result to the front of the buffer. The demangler's texts are made short if that is
+/// requested.
 fn filter_as<D: Demangler + Copy + Drop>(
     alloc: Global,
     demangler: D,
@@ -110,16 +111,18 @@ fn filter_as<D: Demangler + Copy + Drop>(
         Texts::Short { keeps_inline } => {
             let short = Rewriting {
                 demangler,
-                rewrite: Shortening { keeps_inline },
-                reads_paths: asked.legacy,
+                rewrite: Shortening {
+                    keeps_inline,
+                    reads_paths: asked.legacy,
+                },
             };
             filter_by(alloc, &short, asked.letters, text, buffer, tally)
         }
     }
 }
 
-/// Writes a text to the front of the buffer, in which each word that names a symbol is replaced by the symbol's text, if that costs at most
-/// the limit. Counts the words that name symbols. Otherwise the outcome says why nothing is written, and buffer and tally stay as they are.
+/// Writes a text to the front of the buffer, each word that names a symbol replaced by the symbol's text if this text costs at most the
+/// limit. Counts the words that name symbols. If nothing is written, the outcome says why, and buffer and tally stay as they are.
 #[tactic(auto, unfolding(crate::specs::Calls::filter_told, crate::specs::Calls::IsTallied))]
 pub fn filter_of(
     alloc: Global,

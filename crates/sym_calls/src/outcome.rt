@@ -18,9 +18,9 @@ pub struct Outcome {
 pub const OK: u32 = 0;
 /// No symbol has these bytes. The offset is that of the first byte that no symbol has at its place.
 pub const MALFORMED: u32 = 1;
-/// A reference names nothing. The offset is its own.
+/// A reference names nothing. The offset is that of the reference.
 pub const BAD_REFERENCE: u32 = 2;
-/// A number is out of range. The offset is its own.
+/// A number is out of range. The offset is that of the number.
 pub const BAD_VALUE: u32 = 3;
 /// The text costs more than the limit.
 pub const TOO_LONG: u32 = 4;
@@ -30,9 +30,9 @@ pub const MEMORY: u32 = 5;
 pub const BUFFER: u32 = 6;
 /// The symbol has too many bytes.
 pub const SIZE: u32 = 7;
-/// There is no such flag, or this call can't do what it requests.
+/// There is no such flag, or this call can't do what the flag requests.
 pub const FLAGS: u32 = 8;
-/// The ends of names decrease, pass their text, or are fewer or more than the outcomes. (9 is the header's: a pointer is null.)
+/// The ends of names decrease, pass their text, or are fewer or more than the outcomes. (Status 9 is only the header's: a pointer is null.)
 pub const ENDS: u32 = 10;
 /// The name doesn't begin like a symbol.
 pub const NO_SYMBOL: u32 = 11;
@@ -82,7 +82,7 @@ pub(crate) fn of_refusal(refusal: Refusal, skip: u32, buffer: &[u8]) -> Outcome
     }
 }
 
-/// The outcome of a call that presses: the refusal `TooLong` means there that the symbol has no spelling.
+/// The outcome of a call for a pressed spelling, where the refusal `TooLong` means that the symbol has no spelling.
 #[tactic(auto, unfolding(crate::specs::Calls::unspelled))]
 pub(crate) fn unspelled(outcome: Outcome, buffer: &[u8]) -> Outcome
     ensures { ending_of result buffer.now ≡ unspelled (ending_of outcome buffer.now) }

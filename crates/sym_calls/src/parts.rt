@@ -17,8 +17,7 @@ use sym_short::Texts;
 use symbol_parts::{Marked, Parsed, Parser};
 use text_details::mangling_of;
 
-/// A part of a text: the number of its role, its stretch of the text's bytes, and the bytes of the name that spell it, from
-/// one place up to another.
+/// A part of a text: the number of its role, its stretch of the text's bytes, and the stretch of the name's bytes that spells it.
 #[repr(C)]
 #[derive(Clone, Copy)]
 pub struct NamePart {
@@ -235,7 +234,7 @@ fn is_whole(texts: Texts) -> bool
     }
 }
 
-/// Whether what flags request has parts: neither short texts nor types have.
+/// Whether there are parts for what flags request: neither short texts nor types have any.
 fn have_parts(asked: Asked) -> bool
     ensures { result ≡ (is_whole asked.texts && not asked.types) }
 {

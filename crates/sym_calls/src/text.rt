@@ -104,7 +104,8 @@ fn write_short<M: Mangling>(
     Some(write(M::text(&direct), buffer))
 }
 
-/// Writes the text of a symbol of either language in this way. A Rust symbol has no parameters.
+/// Writes the text of a symbol of either language by the short way. A Rust symbol has no
+/// parameters.
 fn short_once<C: Cpp>(
     alloc: Global,
     languages: &Languages<C>,
@@ -169,7 +170,8 @@ fn name_once<C: Cpp>(
     }
 }
 
-/// The same with legacy Rust names as paths. A symbol that can't be such a name takes no more lists than without that option.
+/// Writes the text of a name's symbol as `name_once` does, with legacy Rust names as paths. A symbol that can't be such a name takes no
+/// more lists than without that option.
 fn legacy_once<C: Cpp>(
     alloc: Global,
     legacy: &Legacy<C>,
@@ -209,8 +211,8 @@ fn type_by<D: Demangler>(alloc: Global, demangler: &D, name: &[u8], buffer: &mut
     }
 }
 
-/// The outcome of a name whose symbol has this outcome. It is the outcome of the type, if there is no symbol, types are requested and the
-/// name can be one; otherwise it is that of the symbol.
+/// The outcome of a name whose symbol has this outcome. It is the type's outcome if there is no symbol, types are requested and the name
+/// can be a type; otherwise it is the symbol's.
 pub(crate) fn or_type<D: Demangler>(
     alloc: Global,
     demangler: &D,
@@ -257,15 +259,19 @@ fn short_in<C: Cpp>(
     if asked.legacy {
         let short = Rewriting {
             demangler: asked.with_legacy(limit, cpp),
-            rewrite: Shortening { keeps_inline },
-            reads_paths: asked.legacy,
+            rewrite: Shortening {
+                keeps_inline,
+                reads_paths: asked.legacy,
+            },
         };
         return text_by(alloc, &short, asked, name, buffer);
     }
     let short = Rewriting {
         demangler: asked.languages(limit, cpp),
-        rewrite: Shortening { keeps_inline },
-        reads_paths: asked.legacy,
+        rewrite: Shortening {
+            keeps_inline,
+            reads_paths: asked.legacy,
+        },
     };
     text_by(alloc, &short, asked, name, buffer)
 }
@@ -311,7 +317,7 @@ fn text_in<C: Cpp>(
 }
 
 /// Writes the text of a name's symbol to the front of the buffer, or, if types are requested, of the type that the name is. The text costs
-/// at most the limit. Otherwise the outcome says why nothing is written, and the buffer stays as it is.
+/// at most the limit. If nothing is written, the outcome says why, and the buffer stays as it is.
 #[tactic(auto, unfolding(crate::specs::Calls::text_told))]
 pub fn text_of(alloc: Global, name: &[u8], limit: u32, flags: u32, buffer: &mut [u8]) -> Outcome
     ensures { EndsAs (text_told (asked_of flags) limit name.now buffer.old) buffer.old (ending_of result buffer.new) }
@@ -325,8 +331,8 @@ pub fn text_of(alloc: Global, name: &[u8], limit: u32, flags: u32, buffer: &mut 
     text_in(alloc, Abi, asked, limit, name, buffer)
 }
 
-/// Writes the pressed spelling of a name's symbol, where each repeated part is a reference, to the front of the buffer.
-/// Otherwise the outcome says why nothing is written, and the buffer stays as it is.
+/// Writes the pressed spelling of a name's symbol, where each repeated part is a reference, to the front of the buffer. If nothing is
+/// written, the outcome says why, and the buffer stays as it is.
 #[tactic(auto, unfolding(crate::specs::Calls::press_told))]
 pub fn press_of(alloc: Global, name: &[u8], flags: u32, buffer: &mut [u8]) -> Outcome
     ensures { PressEndsAs (press_told (asked_of flags) name.now buffer.old) buffer.old (ending_of result buffer.new) }

@@ -116,8 +116,10 @@ fn tell_as<D: Demangler + Copy + Drop>(
         Texts::Short { keeps_inline } => {
             let short = Rewriting {
                 demangler,
-                rewrite: Shortening { keeps_inline },
-                reads_paths: asked.legacy,
+                rewrite: Shortening {
+                    keeps_inline,
+                    reads_paths: asked.legacy,
+                },
             };
             let lists = RewritingLists::new(alloc, lists);
             tell_each(alloc, &short, lists, asked, names, ends, buffer, outcomes)
@@ -165,9 +167,9 @@ fn tell_in<C: Cpp>(
     )
 }
 
-/// Writes the texts of many names to the buffer, one after the other, and sets for each name the outcome that `text_of` would
-/// give. Name i is in `names` from the end before it, 0 for the first, to `ends[i]`. A name whose text is longer than the rest of the
-/// buffer gets the size that it needs, and the names after it may still have room.
+/// Writes the texts of many names to the buffer, one after the other, and sets for each name the outcome that `text_of` would give. Name i
+/// is in `names` from the end of the name before it (0 for the first) to `ends[i]`. A name whose text is longer than the rest of the buffer
+/// gets the size that it needs, and the names after it may still have room.
 ///
 /// It answers 0 where each name got its outcome, `FLAGS` where one of the flags doesn't exist, and `ENDS` where the ends decrease, pass the
 /// length of `names`, or are fewer or more than the outcomes. With `FLAGS` and `ENDS` nothing is written. A lack of memory is reported for

@@ -29,7 +29,7 @@ pub word-line : (answers : Answering) (word bytes out mid new : List ℕ) → te
 word-line answers word bytes out mid new none same given pushed =
     pushed ∙ ap (λ (t : List ℕ). t ++ bytes ++ 10 ∷ []) given ∙ ap (λ (t : List ℕ). out ++ t ++ 10 ∷ []) same ∙ append_assoc out word (10 ∷ []) ∙ ap (λ o. out ++ (unwrap_or o word ++ 10 ∷ [])) (sym none)
 
--- what is said of a word, by the answer for it
+-- what is said of a word, given the answer for it
 pub complaint-line : (asked : Asked) (answers : Answering) (word err new : List ℕ) (answer : Option (Result (List ℕ) Refusal)) → answer_for answers word ≡ answer → new ≡ err ++ complaint_about asked word answer → new ≡ err ++ complaint_of asked answers word
 complaint-line asked answers word err new answer is said = said ∙ ap (λ a. err ++ complaint_about asked word a) (sym is)
 
@@ -54,7 +54,7 @@ nothing-behind answers counting false word none = refl
 pub answer_of-symbol : (answers : Answering) (word symbol : List ℕ) (kind : Kind) (answer : Result (List ℕ) Refusal) → kind_of word ≡ Some kind → symbol ≡ symbol_of kind word → answers kind symbol ≡ answer → answer_for answers word ≡ Some answer
 answer_of-symbol answers word symbol kind answer named same is = answer_for-named answers word kind answer named (ap (answers kind) (sym same) ∙ is)
 
--- the line of counts, where they are requested
+-- the line of counts, if counts are requested
 pub counts-behind : (answers : Answering) (counting : Counting) (stats : Bool) (word symbol : List ℕ) (kind : Kind) (answer : Result (List ℕ) Refusal) (counts : Counts) → stats ≡ true → kind_of word ≡ Some kind → symbol ≡ symbol_of kind word → answer_for answers word ≡ Some answer → is_read answer ≡ true → counting kind.lang symbol counts → IsBehindLine (AreCountsFor counting word) (stats && is_read_word (answer_for answers word)) (counts_text counts.rows counts.nodes counts.steps ++ 10 ∷ [])
 counts-behind answers counting true word symbol kind answer counts asked named same answered read are =
     let text = counts_text counts.rows counts.nodes counts.steps ++ 10 ∷ [] in

@@ -1,4 +1,4 @@
--- What the parser of the command line finds, by its settings.
+-- What the parser of the command line finds, given its settings.
 use Rattle.sym_command.proofs.Basics.{◌≡◌, ◌∙◌, ap, ap₂, refl, subst, map, Bor, [], ℕ, List, Option, Some, None, Result, Ok, Err, option_map, unwrap_or, IsSomeAnd, IfOk, false, true, ParsesUnsigned, Text, FailsBy, HasMatchesOf, fault_of, is_simple_and_free, found_of, is_simple, matches_of, rows_of, ReadsOne, AddsArg, App, Rule, app_of, rule_of, with_rule, Arg, Command, IsLimitOf, command_line}
 use Rattle.std.specs.Option.{UnwrapsOrElse}
 use Rattle.clap.specs.declared.error.Error.{Error}

@@ -90,7 +90,7 @@ PutsFront-none known wait = record { gone = []; writes = Appends-none known; beg
 pub PutsFront-all : (a b : Option (List ℕ)) (wait wait' : List ℕ) → Puts a b wait wait' [] → PutsFront a b wait []
 PutsFront-all a b wait wait' p = PutsFront-of a b wait wait' [] [] p
 
--- what a fact about the bytes that two streams took implies
+-- a fact about the bytes that two streams took may be replaced by a fact that it implies
 pub Took-as : (out out' err err' : Option (List ℕ)) (P Q : List ℕ → List ℕ → Type 0) → Took out out' err err' P → ((lines said : List ℕ) → P lines said → Q lines said) → Took out out' err err' Q
 Took-as out out' err err' P Q took turns = record { lines = took.lines; said = took.said; to_out = took.to_out; to_err = took.to_err; held = turns took.lines took.said took.held }
 

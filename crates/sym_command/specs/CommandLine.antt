@@ -60,7 +60,7 @@ detail_by true false = Brief
 detail_by false true = NoParameters
 detail_by true true = BriefNoParameters
 
--- the letters of words that `--ascii-words` requests
+-- which letters words have, depending on whether `--ascii-words` is given
 abbrev pub letters_by : Bool → Letters
 letters_by true = Ascii
 letters_by false = Any
@@ -117,7 +117,7 @@ pub record AreGiven (rows : List Row) (options : Options) : Type 0 where
 abbrev pub symbols_of : List Row → List Text
 symbols_of rows = unwrap_or (all_of (codes "SYMBOL") rows) []
 
--- how standard input is filtered by the options; none where they request counts, which need a symbol
+-- how the options request that standard input is filtered; none where they request counts, which need a symbol
 abbrev pub filtering_by : Options → Option Filtering
 filtering_by options =
     if options.stats then None

@@ -65,8 +65,8 @@ reason_of (BadValue at) = codes "bad value at " ++ decimal at
 reason_of TooLong = codes "too long"
 reason_of Memory = []
 
--- Why a symbol has no answer, by what was requested. Pressing has no limit, so `TooLong` for a symbol that the wide grammar reads means
--- that no spelling is read as that symbol.
+-- Why a symbol has no answer, given what was requested. Pressing has no limit, so `TooLong` for a symbol that the wide grammar reads
+-- means that no spelling is read as that symbol.
 abbrev pub reason_for : Asked → Refusal → List ℕ
 reason_for WidePressed TooLong = codes "no spelling yet"
 reason_for asked refusal = reason_of refusal

@@ -72,7 +72,7 @@ fn push_lines<D: Demangler>(
     Ok(has_text)
 }
 
-/// Appends a word that doesn't begin like a symbol, and says that it is no symbol.
+/// Appends a word that doesn't begin like a symbol, and says that it isn't a symbol.
 fn push_unnamed(
     alloc: Global,
     word: &str,
@@ -90,7 +90,7 @@ fn push_unnamed(
     Ok(())
 }
 
-/// Appends the lines of a symbol with its counts, or a beginning of them, and says whether it has a text.
+/// Appends the lines of a symbol with its counts, or a beginning of them, and says whether the symbol has a text.
 fn push_counted<D: Demangler>(
     demangler: &D,
     lists: &mut D::Lists,
@@ -128,7 +128,7 @@ fn push_counted<D: Demangler>(
     }
 }
 
-/// Appends the line of a symbol without counts, or a beginning of it, and says whether it has a text.
+/// Appends the line of a symbol without counts, or a beginning of that line, and says whether the symbol has a text.
 fn push_answer<D: Demangler>(
     demangler: &D,
     lists: &mut D::Lists,

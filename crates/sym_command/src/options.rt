@@ -125,7 +125,7 @@ fn with_grammars<'a>(alloc: Global, command: Command<'a>) -> Result<Command<'a>,
 ///
 /// # Errors
 ///
-/// Where the list of options can't grow.
+/// `AllocError` where the list of options can't grow.
 pub fn with_short<'a>(alloc: Global, command: Command<'a>) -> Result<Command<'a>, AllocError>
     ensures { IfOk result (λ with_them. app_of with_them ≡ with_short (app_of command.entry)) }
 {
@@ -147,7 +147,7 @@ fn with_details<'a>(alloc: Global, command: Command<'a>) -> Result<Command<'a>, 
 ///
 /// # Errors
 ///
-/// Where the list of options can't grow.
+/// `AllocError` where the list of options can't grow.
 pub fn with_flag<'a>(
     alloc: Global,
     command: Command<'a>,
@@ -181,7 +181,7 @@ pub fn limit<'a>(alloc: Global) -> Arg<'a>
         )
 }
 
-/// The argument for symbols, of which there may be any number.
+/// The argument for symbols; there may be any number of them.
 fn symbols<'a>(alloc: Global) -> Arg<'a>
     ensures rule { rule_of result ≡ symbols }
     ensures local { result.global ≡ false }
@@ -204,7 +204,7 @@ pub fn detail_of(brief: bool, no_params: bool) -> Detail
     }
 }
 
-/// Which letters words have, by a flag.
+/// Which letters words have, depending on a flag.
 fn letters_of(ascii_words: bool) -> Letters
     ensures { result ≡ letters_by ascii_words }
 {
@@ -263,7 +263,8 @@ pub fn symbols_of<'m, 'a>(matches: &'m ArgMatches<'a>) -> &'m [&'a str]
     matches.get_strs("SYMBOL").unwrap_or_default()
 }
 
-/// How an input is filtered by the options; none where they request counts, which need a symbol.
+/// How the options request that an input is filtered; none where they request counts, which need a
+/// symbol.
 pub fn filtering_of(options: Options) -> Option<Filtering>
     ensures { result ≡ filtering_by options }
 {

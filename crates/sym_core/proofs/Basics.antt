@@ -1,4 +1,4 @@
--- What proofs use of the libraries and of definitions, in one place to import it from.
+-- What the proofs use of libraries and definitions, exported from one place.
 pub use Rattle.std.proofs.Common.{Bool, Err, List, None, Ok, Option, Result, Some, [], ap, append_assoc, arith, cond, drop, eq-eqb, eqb, false, get_or, inl, inr, le-leb, leb, length, length-append, ltb, map, nat_le, nat_lt, ne_eqb, not, option_and_then, option_map, refl, slice_set, string_bytes, subst, suc, sym, take, true, zero, ℕ, ◌&&◌, ◌*◌, ◌++◌, ◌+◌, ◌-◌, ◌<◌, ◌==◌, ◌^◌, ◌||◌, ◌∙◌, ◌∷◌, ◌≡◌, ◌≢◌, ◌≤◌, ◌⊎◌}
 pub use Rattle.std.proofs.Math.Nat.{mul-le-mul_right, mul_assoc, mul_comm, pow-le-pow_right, pow-suc, pow-zero}
 pub use Rattle.std.proofs.Math.Seq.{drop-cons, take-append-add}

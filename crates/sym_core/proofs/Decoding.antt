@@ -60,7 +60,7 @@ insert_all-few (suc turns) n i bias output (c ∷ input) =
     (insert_all-few turns point (place + 1) (adapt (read.0 - i) count (i == 0)) (insert output place point) read.1))
     tt)
 
--- the bytes that are copied and the bytes that are read are no more than the input
+-- the bytes that are copied and the bytes that are read are at most as many as the bytes of the input
 parts-few : (input : List ℕ) (b : Bool) → (length (basic_part input) == 0) ≡ b
     → length (basic_part input) + length (cond b input (drop (length input - suffix_len (λ c. not (c == delimiter)) input) input)) ≤ length input
 parts-few input true e = let none : length (basic_part input) ≡ 0 = grind (arith, nat_tests) in omega arith

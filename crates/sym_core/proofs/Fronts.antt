@@ -1,7 +1,7 @@
--- The longest number at the front of some bytes, and the case without a number, each by its parts.
+-- The longest number at the front of some bytes, and the case without a number, each split into its parts.
 use Rattle.sym_core.proofs.Basics.{◌≡◌, ℕ, suc, ◌+◌, ◌-◌, ◌<◌, ◌≤◌, List, [], ◌∷◌, ◌++◌, length, take, drop, refl, ap, sym, ◌∙◌, subst, arith, append_assoc, length-append, take-append-drop, length-take-le, take_at, take-append-add, AreDigitsOf, ending_of, IsNumber, BeginsNumber, HasNumber, HasNoNumber, NumberKind}
 
--- the longest number at the front of q: this many digits
+-- the longest number at the front of q has this many digits
 pub record ReadsNumber (kind : NumberKind) (q : List ℕ) (size : ℕ) : Type 0 where
   pub digits : List ℕ
   pub rest : List ℕ

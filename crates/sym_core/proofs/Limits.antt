@@ -1,4 +1,4 @@
--- The number of a constant that clauses name.
+-- The value of a constant that clauses name.
 use Rattle.sym_core.proofs.Basics.{◌≡◌, refl}
 use Rattle.sym_core.specs.declared.TheConstants.{MOST_BYTES}
 

@@ -5,7 +5,7 @@ pub split_nil : {X : Type 0} (xs ys : List X) → xs ++ ys ≡ [] → (xs ≡ []
 split_nil [] ys e = (refl, e)
 split_nil (x ∷ xs) ys e = cc
 
--- of two fronts of one list, one begins with the other
+-- one of two fronts of a list begins with the other
 pub compared : {X : Type 0} (xs ys v w : List X) → xs ++ v ≡ ys ++ w → ((m : List X) × (xs ≡ ys ++ m) × (w ≡ m ++ v)) ⊎ ((b : X) × (m : List X) × (ys ≡ xs ++ b ∷ m) × (v ≡ b ∷ (m ++ w)))
 compared xs [] v w e = inl (xs, refl, sym e)
 compared [] (y ∷ ys) v w e = inr (y, ys, refl, e)

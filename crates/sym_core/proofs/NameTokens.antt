@@ -57,14 +57,15 @@ no_mark Rust sep part rest b clash mark p q r e is = elim mark [
 abbrev pub IsForeign : NameClass → List ℕ → List ℕ → List ℕ → Type 0
 IsForeign names sep part w = (b : ℕ) (r : List ℕ) → w ≡ b ∷ r → (is_name_byte names b ≡ false) ⊎ ((sep ≡ []) × (part ≡ []) × (is_decimal_digit b ≡ true))
 
--- the length has all the digits that are there
+-- the length's digits don't continue with the next byte
 abbrev pub IsLongest : List ℕ → List ℕ → List ℕ → List ℕ → Type 0
 IsLongest digits sep part w = (c : ℕ) (r : List ℕ) → sep ≡ [] → part ≡ [] → w ≡ c ∷ r → AreDigitsOf Length (digits ++ c ∷ []) → ⊥
 
 digit_not_mark : (c : ℕ) → is_decimal_digit c ≡ true → c ≡ 95 → ⊥
 digit_not_mark c h e = false≢true (ap is_decimal_digit (sym e) ∙ h)
 
--- names with the same length have the same own bytes
+-- after a length, the own bytes of a name that isn't empty begin where the reader's separator ends, and the name has no
+-- separator if the reader found none
 own_same : (names : NameClass) (sep part w : List ℕ) (t_sep own v : List ℕ) → IsSeparated names (sep ++ (part ++ w)) (length sep) → IsSeparator names t_sep own → 0 < length own → (t_sep ++ own) ++ v ≡ sep ++ (part ++ w) → (own ++ v ≡ part ++ w) × (sep ≡ [] → t_sep ≡ [])
 own_same Cpp [] part w [] own v mark is some e = (e, λ _. refl)
 own_same Cpp (c ∷ sep) part w t_sep own v mark is some e = absurd (omega (arith, mark))
@@ -83,7 +84,7 @@ own_same Rust (d ∷ []) part w (c ∷ []) own v mark is some e = (cc, λ nil. c
 own_same Rust (d ∷ x ∷ sep) part w t_sep own v mark is some e = elim mark [ inl one ↦ absurd (omega (arith, one.0)) | inr none ↦ absurd (omega (arith, none.0)) ]
 own_same Rust sep part w (c ∷ d ∷ t_sep) own v mark is some e = absurd is
 
--- if a name breaks off, no name is there
+-- if a name breaks off, no name is at the front of the bytes
 pub not_name : (names : NameClass) (digits sep part rest w : List ℕ) (most : ℕ) → IsFront names digits sep part rest most → IsSeparated names (sep ++ (part ++ w)) (length sep) → length part < most → IsForeign names sep part w → IsLongest digits sep part w → (t : Token) (v : List ℕ) → IsName names t → bytes_of t ++ v ≡ digits ++ (sep ++ (part ++ w)) → ⊥
 not_name names digits sep part rest w most f mark short foreign longest t v h e =
     elim (compared h.digits digits ((h.separator ++ t.own) ++ v) (sep ++ (part ++ w)) whole) [
@@ -236,7 +237,7 @@ each_joined : (p : ℕ → Bool) (xs ys : List ℕ) → Each p xs → Each p ys 
 each_joined p [] ys h k = k
 each_joined p (x ∷ xs) ys h k = (h.0, each_joined p xs ys h.1 k)
 
--- a front that breaks off may be filled up with letters
+-- a front that breaks off can be completed with letters
 filled_up : (names : NameClass) (digits sep part rest : List ℕ) (most n : ℕ) → IsFront names digits sep part rest most → most ≡ length part + suc n → IsFront names digits sep (part ++ letters (suc n)) [] most
 filled_up names digits sep part rest most n f count = record {
   length_is = f.length_is;
@@ -294,7 +295,7 @@ name_broken names digits sep part rest q most size f short split foreign longest
     nameless Cpp none = omega (arith, none)
     nameless Rust none = none
 
--- a name isn't empty: a C++ name's length isn't 0
+-- a C++ name doesn't begin with the digit 0, since its length isn't 0
 zero_name : (t : Token) (w : List ℕ) → IsName Cpp t → bytes_of t ≡ 48 ∷ w → ⊥
 zero_name t w h e = by_digits h.digits h.length_is.1 h.counted (sym (name_bytes Cpp t h) ∙ e)
   where

@@ -40,7 +40,7 @@ run_more p s at end digits last k low high = elim (cases_lt k end) [
   | inr behind ↦ (let same : end ≡ k = omega (arith, behind) in ap (λ n. p (get_or s n 0)) (sym same) ∙ last)
 ]
 
--- the digits that the loop has passed are a run, once it has gone as far as it may
+-- the digits that the loop has passed are a run, once the loop has gone as far as it may
 pub run_reached : (kind : NumberKind) (s : List ℕ) (at end stop most : ℕ) → at ≤ end → end ≤ stop → stop ≤ length s → ((k : ℕ) → at ≤ k → k < end → is_digit_of kind (get_or s k 0) ≡ true) → stop - at ≤ most → (stop - at ≡ most) ⊎ (length s ≤ stop) → stop ≤ end → IsRun kind (drop at s) most (end - at)
 run_reached kind s at end stop most low high within digits few full come =
     run_found kind s at end most low (omega arith) digits (omega arith) (elim full [
@@ -87,7 +87,7 @@ no_longer kind q most size run limit ds b m r are is next =
     too_many Hex front bound form full split f = omega (arith, bound, full, ap length split, length-append front run.rest)
     too_many Digits front bound form full split f = omega (arith, bound, full, ap length split, length-append front run.rest)
 
--- the digits of a run are as many as their kind allows, unless the run is empty and may not be
+-- a run of digits has the form of its kind, unless it is empty and its kind requires a digit
 run_form : (kind : NumberKind) (q : List ℕ) (most size : ℕ) (run : IsRun kind q most size) → IsLimit kind q most → (ending_of kind ≡ [] → 0 < size) → IsFormOf kind run.front
 run_form kind q most size run limit some = form kind limit some run.front run.split (run.size_is) run.few
   where

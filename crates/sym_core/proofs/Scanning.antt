@@ -1,4 +1,4 @@
--- At each place of a list a longest number or name begins, or breaks off.
+-- A longest number or name begins, or breaks off, at each place of a list.
 use Rattle.sym_core.proofs.Basics.{◌≡◌, ℕ, zero, suc, ◌+◌, ◌-◌, ◌≤◌, true, false, ◌⊎◌, inl, inr, List, [], ◌∷◌, length, take, drop, refl, ap, sym, ◌∙◌, subst, arith, Result, Ok, Err, cases_Bool, cases_lt, cases_eq, NumberKind, Length, Decimal, Seq36, Base62, Hex, Digits, NameClass, Cpp, Rust, Span, TokenPlace, is_digit_of, ending_of, IsNumberSpan, IsNumberBreak, IsLimit, IsRun, is_marked, IsSeparated, IsOwn, IsNameless, is_bare_digit, is_name_byte, IsName, IsNumberToken, FindsToken, value_of}
 use Rattle.sym_core.proofs.Fronts.{ReadsNumber, BreaksNumber, has_number, has_no_number}
 use Rattle.sym_core.proofs.Runs.{reads_marked, breaks_marked, reads_bare, breaks_bare}

@@ -133,7 +133,7 @@ tail_stops Rust [] (b ∷ own) h = h.0
 tail_stops Rust (c ∷ []) own h = ap is_decimal_digit h
 tail_stops Rust (c ∷ d ∷ separator) own h = absurd h
 
--- a separator differs from a name's first byte
+-- if two names with their separators have the same bytes, the separators are equal, and so are the names
 pub same_tail : (names : NameClass) (sep own other_sep other : List ℕ) → IsSeparator names sep own → IsSeparator names other_sep other → sep ++ own ≡ other_sep ++ other → (sep ≡ other_sep) × (own ≡ other)
 same_tail Cpp [] own [] other p q e = (refl, e)
 same_tail Cpp (c ∷ sep) own other_sep other p q e = absurd p
@@ -220,7 +220,7 @@ only_mark t b m q e = by_digits q.digits q.length_is.1 q.counted e
         by_tail q.separator t.own q.separated (omega (arith, count, zero_first)) tail
     by_digits (d ∷ e ∷ ds) form count h = (let zero_first : d ≡ 48 = cc in absurd (form.0 zero_first))
 
--- a name begins another name only if it is empty, and the next byte is an '_'
+-- a name is the beginning of another name only if the first one is empty and the next byte is an '_'
 pub record NameGoesOn (names : NameClass) (s : Token) (p : IsName names s) (b : ℕ) (m : List ℕ) : Type 0 where
   pub clash : ends_name names b ≡ false
   pub alone : m ≡ []

@@ -25,7 +25,7 @@ is_digit_of Base62 b = is_decimal_digit b || is_lower_letter b || is_upper_lette
 is_digit_of Hex b = is_decimal_digit b || (nat_le 97 b && nat_le b 102)
 is_digit_of Digits b = is_decimal_digit b
 
--- a Length has one to nine digits without a leading zero, or is a 0 alone
+-- a Length has one to nine digits without a leading zero, or is just a 0
 abbrev pub IsLengthForm : List ℕ → Type 0
 IsLengthForm [] = ⊥
 IsLengthForm (d ∷ []) = ⊤
@@ -81,6 +81,6 @@ HasNoNumber kind s size = ((n : ℕ) → n ≤ length s → ¬ (IsNumber kind (t
 abbrev pub IsNumberSpan : NumberKind → List ℕ → ℕ → Span → Type 0
 IsNumberSpan kind s at span = (span.from ≡ at) × (at ≤ span.to) × HasNumber kind (drop at s) (span.to - at)
 
--- no number begins at the place; the longest front from there that begins one ends at the other
+-- no number begins at the first place; the longest front from there that begins a number ends at the second place
 abbrev pub IsNumberBreak : NumberKind → List ℕ → ℕ → ℕ → Type 0
 IsNumberBreak kind s at bad = (at ≤ bad) × HasNoNumber kind (drop at s) (bad - at)

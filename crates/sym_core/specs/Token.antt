@@ -20,7 +20,7 @@ AreNameBytes names bytes = AllByRecursion (λ b. is_name_byte names b ≡ true) 
 
 -- the bytes between a name's length and its own bytes
 abbrev pub IsSeparator : NameClass → List ℕ → List ℕ → Type 0
--- the first byte of a C++ name is no digit, and there is at least one
+-- a C++ name has at least one byte, and its first byte is no digit
 IsSeparator Cpp [] [] = ⊥
 IsSeparator Cpp [] (b ∷ bs) = is_decimal_digit b ≡ false
 IsSeparator Cpp (c ∷ cs) bs = ⊥
@@ -64,7 +64,7 @@ begins_number Seq36 b = is_digit_of Seq36 b || b == 95
 begins_number Base62 b = is_digit_of Base62 b || b == 95
 begins_number Hex b = is_digit_of Hex b || b == 95
 
--- the byte may come after a name or a number, since it doesn't belong to it
+-- the byte may come after a name or a number, and isn't a part of it
 abbrev pub ends_name : NameClass → ℕ → Bool
 ends_name Cpp b = true
 ends_name Rust b = not (b == 95)

@@ -27,7 +27,7 @@ value_onto kind v (digit ∷ rest) = value_onto kind (v * radix_of kind + digit_
 abbrev pub value_of : NumberKind → List ℕ → ℕ
 value_of kind digits = value_onto kind 0 digits
 
--- the value of a number that is counted from its digits: 0 without any, else one more than they denote
+-- the value of a number that is counted from its digits: 0 if it has none, else one more than the digits denote
 abbrev pub counted_value : NumberKind → List ℕ → ℕ
 counted_value kind [] = 0
 counted_value kind (digit ∷ rest) = value_of kind (digit ∷ rest) + 1

@@ -21,7 +21,7 @@ pub use values::{length_of, value10, value16, value36, value62};
 /// The longest symbol, in bytes.
 pub const MOST_BYTES: usize = 16_777_216;
 
-/// A stretch of bytes, from `from` up to and without `to`, each counted from the symbol's first byte.
+/// A stretch of bytes, from `from` up to, but not including, `to`; both are counted from the symbol's first byte.
 #[derive(Clone, Copy, Debug, PartialEq, Eq)]
 pub struct Span {
     pub from: u32,

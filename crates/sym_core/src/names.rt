@@ -42,7 +42,7 @@ fn append(out: &mut Vec<u8>, front: &[u8], text: &[u8], back: &[u8]) -> Result<S
 ///
 /// # Errors
 ///
-/// `Memory` where the list has no room for the text and can't grow; it is then as it was.
+/// `Memory` where the list has no room for the text and can't grow; the list then stays as it was.
 pub fn push_decimal(
     _alloc: Global,
     value: u128,

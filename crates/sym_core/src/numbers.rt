@@ -10,8 +10,8 @@ ghost use Rattle.sym_core.specs.Scan.{is_marked, IsRun, IsLimit};
 
 use crate::{NumberKind, Span};
 
-// The value of each byte as a digit in base 62: 0 to 9, then the lower-case letters, then the upper-case ones; 62 where the
-// byte is no digit.
+// The value of each byte as a digit in base 62: 0 to 9, then the lower-case letters, then the upper-case ones; 62 where the byte isn't a
+// digit.
 static BASE62_DIGITS: [u8; 256] = [
     62, 62, 62, 62, 62, 62, 62, 62, 62, 62, 62, 62, 62, 62, 62, 62, 62, 62, 62, 62, 62, 62, 62, 62,
     62, 62, 62, 62, 62, 62, 62, 62, 62, 62, 62, 62, 62, 62, 62, 62, 62, 62, 62, 62, 62, 62, 62, 62,
@@ -26,7 +26,7 @@ static BASE62_DIGITS: [u8; 256] = [
     62, 62, 62, 62, 62, 62, 62, 62, 62, 62, 62, 62, 62, 62,
 ];
 
-/// The value of a byte as a digit in base 62, or 62 where it is none.
+/// The value of a byte as a digit in base 62, or 62 if the byte isn't a digit.
 pub fn base62_digit(byte: u8) -> u8
     ensures digit { nat_lt result 62 ≡ is_digit_of Base62 byte }
     ensures value { is_digit_of Base62 byte ≡ true → result ≡ digit_value Base62 byte }
@@ -64,7 +64,8 @@ pub fn has_mark(kind: NumberKind) -> bool
     !matches!(kind, NumberKind::Length | NumberKind::Digits)
 }
 
-/// The most digits that there may be; for kinds without a limit, more than there are bytes.
+/// The most digits that a number of the kind may have; for kinds without a limit, more than there
+/// are bytes.
 fn most_digits(s: &[u8], at: usize, kind: NumberKind) -> usize
     requires fits { FitsSymbol s.now }
     requires within { at ≤ length s.now }
@@ -78,7 +79,7 @@ fn most_digits(s: &[u8], at: usize, kind: NumberKind) -> usize
     }
 }
 
-/// The place n bytes after another, or the end of the bytes if fewer follow.
+/// The place n bytes after a given one, or the end of the bytes if fewer follow.
 pub fn reach(s: &[u8], at: usize, most: usize) -> usize
     requires { at ≤ length s.now }
     ensures low { at ≤ result }
@@ -163,8 +164,8 @@ fn is_mark(s: &[u8], at: usize) -> bool
 ///
 /// # Errors
 ///
-/// Where no number begins there, the first bad place: the end of the longest front from `at` that begins one.
-/// It is `s.len()` where the bytes only end too soon.
+/// Where no number begins at `at`, the first bad place: the end of the longest front from there that begins a number. It is `s.len()` where
+/// the bytes only end too soon.
 #[inline(always)]
 pub fn number(s: &[u8], at: usize, kind: NumberKind) -> Result<Span, usize>
     requires fits { FitsSymbol s.now }

@@ -9,7 +9,8 @@ use std::alloc::{AllocError, AllocFailed};
 /// Why a symbol has no text. Places are counts of bytes from the symbol's first one.
 #[derive(Clone, Copy, Debug, PartialEq, Eq)]
 pub enum Refusal {
-    /// 1: no well shaped symbol begins with more than the first `at` bytes. It precedes 2 and 3.
+    /// 1: no well shaped symbol begins with more than the first `at` bytes. This refusal precedes 2
+    /// and 3.
     Malformed { at: u32 },
     /// 2: the symbol is well shaped, and its first bad token is the reference at this place.
     BadReference { at: u32 },
@@ -17,7 +18,7 @@ pub enum Refusal {
     BadValue { at: u32 },
     /// 4: the symbol was read, and its text costs more than the limit.
     TooLong,
-    /// 5: a list couldn't grow. It may be answered before 1 to 4 are known.
+    /// 5: a list couldn't grow. This may be answered before it is known whether 1 to 4 hold.
     Memory,
 }
 

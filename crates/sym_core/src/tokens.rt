@@ -47,7 +47,7 @@ fn behind_number(to: u32, kind: NumberKind) -> usize
     to as usize + has_mark(kind) as usize
 }
 
-// For each byte whether it may be in a Rust name: letters, digits and `_`.
+// Which bytes may be in a Rust name: letters, digits and `_`.
 static RUST_NAME_BYTES: [u8; 256] = *b"\
     00000000000000000000000000000000\
     00000000000000001111111111000000\

@@ -36,7 +36,7 @@ fn digit(kind: NumberKind, byte: u8) -> u8
     }
 }
 
-/// The number that the digits denote, or None beyond 64 bits or where a byte is no digit.
+/// The number that the digits denote, or None beyond 64 bits or where a byte isn't a digit.
 #[cold]
 fn long_value(kind: NumberKind, digits: &[u8]) -> Option<u64>
     ensures value { AreDigits kind digits.now → MatchOption result (2 ^ 64 ≤ value_of kind digits.now) (λ v. v ≡ value_of kind digits.now) }
@@ -56,7 +56,7 @@ fn long_value(kind: NumberKind, digits: &[u8]) -> Option<u64>
 /// Ten digits of any kind denote a number that 64 bits hold.
 const SHORT: usize = 10;
 
-/// The number that a few digits denote, or None where a byte is no digit.
+/// The number that a few digits denote, or None where a byte isn't a digit.
 fn short_value(kind: NumberKind, digits: &[u8]) -> Option<u64>
     requires { length digits.now ≤ SHORT }
     ensures value { AreDigits kind digits.now → MatchOption result (2 ^ 64 ≤ value_of kind digits.now) (λ v. v ≡ value_of kind digits.now) }
@@ -72,7 +72,7 @@ fn short_value(kind: NumberKind, digits: &[u8]) -> Option<u64>
     Some(value)
 }
 
-/// The number that the digits denote, or None beyond 64 bits or where a byte is no digit.
+/// The number that the digits denote, or None beyond 64 bits or where a byte isn't a digit.
 fn value(kind: NumberKind, digits: &[u8]) -> Option<u64>
     ensures value { AreDigits kind digits.now → MatchOption result (2 ^ 64 ≤ value_of kind digits.now) (λ v. v ≡ value_of kind digits.now) }
     ensures digits { IfSome result (λ v. AreDigits kind digits.now) }
@@ -83,7 +83,7 @@ fn value(kind: NumberKind, digits: &[u8]) -> Option<u64>
     short_value(kind, digits)
 }
 
-/// One more than the digits denote, 0 where there are none, or None beyond 64 bits or where a byte is no digit.
+/// One more than the digits denote, 0 where there are none, or None beyond 64 bits or where a byte isn't a digit.
 fn counted(kind: NumberKind, digits: &[u8]) -> Option<u64>
     ensures value { AreDigits kind digits.now → MatchOption result (2 ^ 64 ≤ counted_value kind digits.now) (λ v. v ≡ counted_value kind digits.now) }
     ensures digits { IfSome result (λ v. AreDigits kind digits.now) }
@@ -94,7 +94,7 @@ fn counted(kind: NumberKind, digits: &[u8]) -> Option<u64>
     value(kind, digits)?.checked_add(1)
 }
 
-/// The value of a byte as a digit of a Seq36 number. A byte that is no digit has some value, too.
+/// The value of a byte as a digit of a Seq36 number. A byte that isn't a digit has some value, too.
 fn digit36(byte: u8) -> u8
     ensures { result ≡ digit_value NumberKind.Seq36 byte }
 {
@@ -129,8 +129,8 @@ fn base36_value(digits: &[u8]) -> Option<u64>
     Some(value)
 }
 
-/// The value of a Decimal number by its digits: 0 where there are none, else one more than they denote. None past 64 bits. A
-/// byte that is no digit has some value, too.
+/// The value of a Decimal number by its digits: 0 where there are none, else one more than they denote. None past 64 bits. A byte that
+/// isn't a digit has some value, too.
 pub fn value10(digits: &[u8]) -> Option<u64>
     ensures { MatchOption result (2 ^ 64 ≤ counted_value NumberKind.Decimal digits.now) (λ v. v ≡ counted_value NumberKind.Decimal digits.now) }
 {
@@ -140,8 +140,8 @@ pub fn value10(digits: &[u8]) -> Option<u64>
     decimal_value(digits)?.checked_add(1)
 }
 
-/// The value of a Seq36 number by its digits: 0 where there are none, else one more than they denote. None past 64 bits. A byte
-/// that is no digit has some value, too.
+/// The value of a Seq36 number by its digits: 0 where there are none, else one more than they denote. None past 64 bits. A byte that isn't
+/// a digit has some value, too.
 pub fn value36(digits: &[u8]) -> Option<u64>
     ensures { MatchOption result (2 ^ 64 ≤ counted_value NumberKind.Seq36 digits.now) (λ v. v ≡ counted_value NumberKind.Seq36 digits.now) }
 {
@@ -151,8 +151,8 @@ pub fn value36(digits: &[u8]) -> Option<u64>
     base36_value(digits)?.checked_add(1)
 }
 
-/// The value of a Base62 number by its digits, which are tested as they are counted: 0 where there are none, else one more than
-/// they denote. None past 64 bits, and where a byte is no digit.
+/// The value of a Base62 number by its digits, which are tested as they are counted: 0 where there are none, else one more than they
+/// denote. None past 64 bits, and where a byte isn't a digit.
 pub fn value62(digits: &[u8]) -> Option<u64>
     ensures value { AreDigits NumberKind.Base62 digits.now → MatchOption result (2 ^ 64 ≤ counted_value NumberKind.Base62 digits.now) (λ v. v ≡ counted_value NumberKind.Base62 digits.now) }
     ensures digits { IfSome result (λ v. AreDigits NumberKind.Base62 digits.now) }

@@ -1,4 +1,4 @@
--- What proofs use of the libraries and of definitions, in one place to import it from.
+-- The library lemmas and definitions that this crate's proofs use, exported from one place.
 pub use Rattle.std.proofs.Common.{Bool, Bor, Err, List, Ok, Option, Result, Some, [], ap, append-nil, arith, drop, eqb, false, inl, inr, length, refl, subst, sym, take, true, ℕ, ◌*◌, ◌++◌, ◌+◌, ◌∙◌, ◌≡◌, ◌≢◌, ◌≤◌, ◌⊎◌}
 pub use Rattle.std.proofs.lemmas.Result.{err_from_is_err_and}
 pub use Rattle.std.specs.Prelude.{IfErr, IfOk, MatchOption, None, OnOk, nat_le, ◌<◌}

@@ -9,7 +9,7 @@ pub few_of : {N P K V S C : Type 0} (g : Table) (view : View N P K V S C) (s : L
 few_of g view s rows read nodes steps refused next frames parts done is =
     (omega (arith, driving_few view s rows is.shape nodes steps refused next frames parts is.driving, is.few.steps_few, is.few.rows_few), is.few.rows_few)
 
--- what holds of a driver over some bytes and rows holds of it over the linker's, which are equal
+-- what holds of a driver over some bytes and rows also holds over the linker's bytes and rows, which are equal
 pub driving_same : {N P K V S C : Type 0} (view : List ℕ → View N P K V S C) (d s : List ℕ) (rs rows : List Row) (shape : Tree) (nodes : N) (steps : ℕ) (refused : Option Refusal) (next : ℕ)
     (frames : List (Frame K)) (parts : List P) → d ≡ s → rs ≡ rows → IsDriving (view d) d rs shape nodes steps refused next frames parts
     → IsDriving (view s) s rows shape nodes steps refused next frames parts
@@ -17,7 +17,7 @@ driving_same view d s rs rows shape nodes steps refused next frames parts same s
     subst (λ b. IsDriving (view b) b rows shape nodes steps refused next frames parts) same
     (subst (λ r. IsDriving (view d) d r shape nodes steps refused next frames parts) same_rows driving)
 
--- a driver that is done over some bytes and rows is done over the linker's, which are equal
+-- a driver that is done over some bytes and rows is also done over the linker's bytes and rows, which are equal
 done_same : {N P K V S C : Type 0} (view : List ℕ → View N P K V S C) (d s : List ℕ) (rs rows : List Row) (shape : Tree) (nodes : N) (parts : List P) → d ≡ s → rs ≡ rows
     → IsDone (view d) d rs (meaning_of (view d) shape) nodes parts → IsDone (view s) s rows (meaning_of (view s) shape) nodes parts
 done_same view d s rs rows shape nodes parts same same_rows done =

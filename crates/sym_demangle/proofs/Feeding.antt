@@ -14,7 +14,8 @@ pub reason_whatever : (g : Table) (s rest : List ℕ) (ended : Bool) (e : Refusa
 reason_whatever g s rest ended (Malformed at) untold reason = subst (λ b. IsReason g b s (Malformed at)) untold reason rest
 reason_whatever g s rest ended e untold reason = reason
 
--- a reader that read what it had, was fed the rest and was given the end has read the first bytes and the rest
+-- if a reader had read the first bytes, and then was fed the rest and given the end, its bytes are the first ones and
+-- the rest
 pub fed_all : (told more ran first rest : List ℕ) → told ≡ more ++ [] → more ≡ ran ++ rest → ran ≡ first → told ≡ first ++ rest
 fed_all told more ran first rest end fed same = end ∙ append-nil more ∙ fed ∙ ap (λ bs. bs ++ rest) same
 

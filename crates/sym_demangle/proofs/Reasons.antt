@@ -47,7 +47,7 @@ module _ {W : Type 0} (m : Mangled W) (refuses : RefusesBadTokens m) where
   answer_reason detail s limit refusal (shaped shape is spelled same) =
       subst (λ (r : Result (List ℕ) Refusal). IfErr r (HasReason m.table s)) (sym same) (symbol_reason detail s limit (m.unfolded shape) (shape, is, spelled) (refuses shape is))
 
-  -- a symbol that is linked reads as what it is linked to
+  -- a symbol is read as what it is linked to
   pub links_read : {T : Type 0} (whole : T → W) (s bytes : List ℕ) (result : Result T Refusal) → s ≡ bytes → IfOk result (λ x. StandsFor m s (Ok (whole x))) → IfOk result (λ x. IsReading m bytes (Ok (whole x)))
   links_read whole s bytes (Ok x) same stands = well_shaped (subst (λ b. StandsFor m b (Ok (whole x))) same stands)
   links_read whole s bytes (Err e) same stands = tt

@@ -38,7 +38,7 @@ linked_of g view s rows read_steps nodes steps refused next frames parts done is
   steps_few = omega (arith, total, driving_few view s rows is.shape nodes steps refused next frames parts is.driving, is.few.steps_few, is.few.rows_few);
 }
 
--- the steps for a tree that spells the symbol are those for its one tree
+-- the steps for a tree that spells the symbol are those for the symbol's one tree
 pub shape_steps : (g : Table) (lawful : IsLawful g) (s bytes : List ℕ) (shape : Tree) (steps : ℕ) → IsTree g (Kind 0) shape → spell shape ≡ s → s ≡ bytes → steps ≡ link_steps shape → AreLinkSteps g bytes steps
 shape_steps g lawful s bytes shape steps is own there counted = λ tree is_tree spelled.
     counted ∙ ap link_steps (one_tree g lawful shape tree is is_tree (own ∙ there ∙ sym spelled))

@@ -1,4 +1,4 @@
--- A mangling, and what it says of the bytes of a symbol: what they read as, and what the answer is.
+-- A mangling, and what it says of the bytes of a symbol: what they are read as, and what the answer is.
 use Rattle.std.specs.Prelude.{◌≡◌, ◌⊎◌, ℕ, List, Result, Ok, Err, ⊤}
 use Rattle.std.specs.Result.{IfErr}
 use Rattle.sym_core.specs.declared.refusal.Refusal.{Refusal}
@@ -37,7 +37,7 @@ StandsFor m s result = (shape : Tree) × IsTree m.table (Kind 0) shape × (spell
 abbrev pub IsRefused : {W : Type 0} → Mangled W → List ℕ → Refusal → Type 0
 IsRefused m s refusal = (refusal ≡ Memory) ⊎ StandsFor m s (Err refusal)
 
--- what a symbol reads as: a refusal at its first bad byte or, where it has none, what its shape denotes
+-- what a symbol is read as: a refusal at its first bad byte or, if no byte is bad, what its shape denotes
 pub data IsReading {W : Type 0} (m : Mangled W) (s : List ℕ) (result : Result W Refusal) : Type 0 where
   misshapen : (at : ℕ) → IsMalformed m.table s at → result ≡ Err (Malformed at) → IsReading m s result
   well_shaped : StandsFor m s result → IsReading m s result
@@ -56,12 +56,12 @@ pub data IsAnswer {W : Type 0} (m : Mangled W) (detail : Detail) (s : List ℕ) 
   malformed : (at : ℕ) → IsMalformed m.table s at → result ≡ Err (Malformed at) → IsAnswer m detail s limit result
   shaped : (shape : Tree) → IsTree m.table (Kind 0) shape → spell shape ≡ s → result ≡ answer_of_shape m detail limit shape → IsAnswer m detail s limit result
 
--- The answer to a symbol at a limit: that of its shape, or its first bad byte. A list with an item that is no byte is refused
--- at once.
+-- The answer to a symbol at a limit: the answer to its shape, or a refusal at its first bad byte. A list with an item that
+-- isn't a byte is refused at once.
 unfoldable pub answer : {W : Type 0} → Mangled W → Detail → List ℕ → ℕ → Result (List ℕ) Refusal
 answer m detail s limit = outcome m.table m.lawful (answer_of_shape m detail limit) (λ at. Err (Malformed at)) (Err (Malformed 0)) s
 
--- A refusal has its reason in the symbol: only what isn't well shaped is malformed, and only what is well shaped is refused for
+-- A refusal has its reason in the symbol. Only what isn't well shaped is malformed, and only what is well shaped is refused for
 -- a bad token or for what its text costs. Want of memory isn't a property of the symbol.
 abbrev pub HasReason : Table → List ℕ → Refusal → Type 0
 HasReason g s (Malformed at) = IsMalformed g s at

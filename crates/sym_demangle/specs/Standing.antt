@@ -13,9 +13,9 @@ use Rattle.sym_link.specs.Linking.{View}
 use Rattle.sym_link.specs.Stepping.{link_steps}
 use Rattle.sym_link.specs.Following.{Fits, IsShape, IsDone, IsDriving, meaning_of}
 
--- How far a symbol is linked: its bytes, the rows of its shape and the steps of the reader, the linker's own steps, the nodes,
--- whether the linker has answered that all is done, its refusal if there was one, and its lists: of open rules, of parts, and
--- those of the table.
+-- How far a symbol is linked: its bytes, the rows of its shape, the steps of the reader, the linker's own steps, and the
+-- nodes. The other fields are whether the linker has answered that all is done, its refusal if there was one, and its lists:
+-- of open rules, of parts, and those of the table.
 pub record Progress : Type 0 where
   pub bytes : List ℕ
   pub rows : ℕ
@@ -35,7 +35,7 @@ unlinked bytes rows read_steps nodes lists =
 abbrev pub AddsTwoEach : (old new : Progress) → Type 0
 AddsTwoEach old new = new.nodes + 2 * old.steps ≤ old.nodes + 2 * new.steps
 
--- The steps of the reader and the linker together, and the rows, are few for the bytes.
+-- The steps of the reader and the linker together, and the rows, are few for the number of bytes.
 pub record AreFewInAll (progress : Progress) : Type 0 where
   pub steps : progress.read_steps + progress.steps ≤ 32 * length progress.bytes + 48
   pub rows : progress.rows ≤ 4 * length progress.bytes + 4
@@ -48,11 +48,12 @@ AreLinkSteps g s steps = (tree : Tree) → IsTree g (Kind 0) tree → spell tree
 abbrev pub AreStepsInAll : Table → List ℕ → ℕ → Type 0
 AreStepsInAll g s steps = (tree : Tree) → IsTree g (Kind 0) tree → spell tree ≡ s → steps ≡ read_steps tree + link_steps tree
 
--- The count is that of the nodes of the one tree that spells the symbol; `Are` says which counts of nodes a tree has.
+-- The one tree that spells the symbol has this count of nodes; `Are` says which counts of nodes a tree has.
 abbrev pub AreNodesOf : Table → (Are : Tree → ℕ → Type 0) → List ℕ → ℕ → Type 0
 AreNodesOf g Are s nodes = (tree : Tree) → IsTree g (Kind 0) tree → spell tree ≡ s → Are tree nodes
 
--- The language counts a table's size and its first nodes, at most eight: never more, and no fewer once the table is paid for.
+-- The language's count of nodes is at most the table's size plus the number of first nodes, which is at most eight. Once
+-- the table is paid for, the count is no less than this sum.
 pub record CountsNodes {N P K V S C : Type 0} (view : View N P K V S C) (count : N → ℕ) (first : ℕ) : Type 0 where
   pub few : first ≤ 8
   pub most : (nodes : N) → count nodes ≤ view.size nodes + first

@@ -41,8 +41,8 @@ fn link<M: Mangling>(alloc: Global, bytes: Vec<u8>, shape: Shape) -> Result<M::S
 ///
 /// # Errors
 ///
-/// `Malformed` at the first bad byte of a symbol that isn't well shaped, `BadReference` and `BadValue` at the first bad token
-/// of one that is, `Memory` where a list couldn't grow.
+/// `Malformed` at the first bad byte of a symbol that isn't well shaped, `BadReference` and `BadValue` at the first bad token of a symbol
+/// that is well shaped, `Memory` where a list couldn't grow.
 pub fn read<M: Mangling>(alloc: Global, s: &[u8]) -> Result<M::Symbol, Refusal>
     requires { FitsSymbol s.now }
     ensures bytes { IfOk result (λ symbol. M.bytes_of symbol ≡ s.now) }
@@ -64,7 +64,7 @@ pub fn read<M: Mangling>(alloc: Global, s: &[u8]) -> Result<M::Symbol, Refusal>
 ///
 /// # Errors
 ///
-/// Those of `read`, for the bytes fed.
+/// The refusals of `read`, for the bytes fed.
 pub fn read_fed<M: Mangling>(alloc: Global, mut reader: Reader<M>) -> Result<M::Symbol, Refusal>
     requires { reader.ended ≡ true }
     ensures bytes { IfOk result (λ symbol. M.bytes_of symbol ≡ reader.bytes) }
@@ -85,7 +85,7 @@ pub fn read_fed<M: Mangling>(alloc: Global, mut reader: Reader<M>) -> Result<M::
 ///
 /// # Errors
 ///
-/// Those of `read`, and `TooLong` exactly where the text costs more.
+/// The refusals of `read`, and `TooLong` exactly where the text costs more than the limit.
 pub fn demangle<M: Mangling>(alloc: Global, s: &[u8], limit: u32) -> Result<Vec<u8>, Refusal>
     requires { FitsSymbol s.now }
     ensures text { IfOk result (λ text. IsAnswer M.mangled Detail.Full s.now limit (Ok text.items)) }
@@ -98,7 +98,7 @@ pub fn demangle<M: Mangling>(alloc: Global, s: &[u8], limit: u32) -> Result<Vec<
 ///
 /// # Errors
 ///
-/// Those of `read`, and `TooLong` exactly where the text costs more.
+/// The refusals of `read`, and `TooLong` exactly where the text costs more than the limit.
 pub fn demangle_as<M: Mangling>(
     alloc: Global,
     s: &[u8],

@@ -20,8 +20,8 @@ pub fn one_answer<M: Mangling>()
 {}
 
 /// What a symbol reads as decides its answer at every limit and in each detail: the text of its
-/// tree, or `TooLong`. A symbol that is refused when it is read has that refusal for its answer,
-/// which is never `TooLong`.
+/// tree, or `TooLong`. A symbol that is refused when it is read has that refusal as its answer, and
+/// the refusal is never `TooLong`.
 pub fn read_answers<M: Mangling>()
     ensures answered { (detail : Detail) (s : List ℕ) (limit : ℕ) (result : Result M.Whole Refusal) → AreBytes s → IsReading M.mangled s result → answer M.mangled detail s limit ≡ answer_of_symbol M.mangled detail limit result }
     ensures read { (detail : Detail) (s : List ℕ) (limit : ℕ) (symbol : M.Whole) → AreBytes s → IsReading M.mangled s (Ok symbol) → IfErr (answer M.mangled detail s limit) (λ refusal. refusal ≡ TooLong) }
@@ -30,8 +30,8 @@ pub fn read_answers<M: Mangling>()
     M::refuses_bad_tokens();
 }
 
-/// The refusal of a reading or of an answer has its reason in the symbol: what isn't well shaped is `Malformed` at its
-/// first bad byte, and what is well shaped has a bad token or a text that costs too much.
+/// The refusal of a reading or of an answer has its reason in the symbol. What isn't well shaped is `Malformed` at its first bad byte; what
+/// is well shaped has a bad token or a text that costs too much.
 pub fn each_refusal_has_a_reason<M: Mangling>()
     ensures read { (s : List ℕ) (refusal : Refusal) → IsReading M.mangled s (Err refusal) → HasReason M.mangled.table s refusal }
     ensures answered { (detail : Detail) (s : List ℕ) (limit : ℕ) (refusal : Refusal) → IsAnswer M.mangled detail s limit (Err refusal) → HasReason M.mangled.table s refusal }

@@ -41,7 +41,7 @@ impl<M: Mangling> Model for Linker<M> {
     ghost invariant = { λ l. IsLinker M.mangled.table (M.Linked.view l.bytes.items) l.bytes.items l.shape.rows l.shape.steps l.linked l.driver.steps l.driver.refused l.driver.next l.driver.frames.items l.driver.parts.items l.done };
 }
 
-/// The symbol whose rows a driver has gone over. It takes no memory.
+/// The symbol whose rows a driver has gone over. Making it takes no memory.
 #[inline(always)]
 pub(crate) fn finished<M: Mangling>(
     bytes: Vec<u8>,
@@ -120,7 +120,8 @@ impl<M: Mangling> Linker<M> {
         ensures again { IfSome self.old.refused (λ e. (result ≡ Err e) × (self.new ≡ self.old)) }
         // A linker that has answered true answers true again, and doesn't change.
         ensures done_again { self.old.done ≡ true → self.old.refused ≡ None → (result ≡ Ok true) × (self.new ≡ self.old) }
-        // A step that is counted adds at most two nodes, refused or not, and no other adds any.
+        // A step that is counted adds at most two nodes, refused or not, and no other step adds
+        // any.
         ensures nodes { AddsTwoEach self.old self.new }
         ensures room { KeepRoom self.old.lists self.new.lists }
         // `Memory` is the first refusal only where a list had no room, or the symbol has a token that takes memory of its own.
@@ -166,7 +167,7 @@ impl<M: Mangling> Linker<M> {
         ensures done_again { self.old.done ≡ true → self.old.refused ≡ None → (result ≡ Ok tt) × (self.new ≡ self.old) }
         // Steps are counted, refused or not.
         ensures counted { self.old.steps ≤ self.new.steps }
-        // Each of them adds at most two nodes, refused or not.
+        // Each step adds at most two nodes, refused or not.
         ensures nodes { AddsTwoEach self.old self.new }
         ensures room { KeepRoom self.old.lists self.new.lists }
         // `Memory` is the first refusal only where a list had no room, or the symbol has a token that takes memory of its own.
@@ -192,7 +193,7 @@ impl<M: Mangling> Linker<M> {
         }
     }
 
-    /// The symbol. It takes no memory.
+    /// The symbol. Making it takes no memory.
     pub fn finish(self) -> M::Symbol
         requires { self.done ≡ true }
         ensures bytes { M.bytes_of result ≡ self.bytes }

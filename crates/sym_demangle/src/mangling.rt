@@ -61,7 +61,7 @@ pub trait Mangling: Grammar + Copy {
     /// The mangling.
     fn grammar() -> Self;
 
-    /// A table without nodes. It takes no memory.
+    /// A table without nodes. Making it takes no memory.
     fn idle(alloc: Global) -> Self::Linked;
 
     /// Forgets the symbol, and begins another one. The memory of the lists is kept.
@@ -70,7 +70,7 @@ pub trait Mangling: Grammar + Copy {
         ensures begins { OnOk result (Begins (Self.Linked.view symbol.now) linked.new) }
         ensures memory { IfErr result (λ e. e ≡ refusals.Memory) };
 
-    /// The symbol that was linked. It takes no memory.
+    /// The symbol that was linked. Making it takes no memory.
     fn finish(
         bytes: Vec<u8>,
         linked: &mut Self::Linked,
@@ -90,14 +90,14 @@ pub trait Mangling: Grammar + Copy {
         ensures may_come { Self.Symbol.may_come symbol.now (part.Sub result) }
         ensures shows { Self.Symbol.unshared symbol.now result ≡ mangled.shown detail (whole_of symbol.now) };
 
-    /// Takes back the lists of a symbol: its nodes, and its bytes, which are answered. It takes no memory.
+    /// Takes back the lists of a symbol, which are its nodes and its bytes, and answers the bytes. This takes no memory.
     fn recycle(linked: &mut Self::Linked, symbol: Self::Symbol) -> Vec<u8>;
 
-    /// The lists of the short way. They take no memory.
+    /// The lists of the short way. Making them takes no memory.
     fn direct(alloc: Global) -> Self::Direct;
 
-    /// Writes the text of a symbol in a detail, if the symbol goes the short way and its text costs at most the limit. Answers
-    /// whether the text was written. Where it wasn't, nothing is known of the symbol.
+    /// Writes the text of a symbol in a detail, if the short way can read the symbol and its text costs at most the limit. Answers whether
+    /// the text was written. Where it wasn't, nothing is known of the symbol.
     fn write(direct: &mut Self::Direct, symbol: &[u8], limit: u32, detail: Detail) -> bool
         requires { FitsSymbol symbol.now }
         ensures { result ≡ true → IsAnswer mangled detail symbol.now limit (Ok (written direct.new)) };

@@ -22,8 +22,8 @@ use sym_shape::{Reader, Shape, read_into};
 
 /// The lists that symbols are read and printed with, one after the other.
 ///
-/// They grow with the largest symbol and text so far, and stay as large: only the end of the workspace gives their memory back.
-/// A symbol takes its lists along; `recycle` gives them back.
+/// The lists grow with the largest symbol and text so far, and stay as large: only the end of the workspace gives their memory back. A
+/// symbol takes its lists along; `recycle` gives them back.
 ///
 /// If a symbol's bytes arrive in pieces, `read_ahead` reads those that have arrived; the answers are the same without it.
 #[derive(Drop)]
@@ -119,9 +119,9 @@ impl<M: Mangling> Workspace<M> {
         }
     }
 
-    /// Reads what has arrived of a symbol that may continue, once that is half as much again as was
-    /// read ahead before. So a token that arrives in small pieces isn't read again for each piece.
-    /// Reading a symbol that begins with these bytes continues after them.
+    /// Reads what has arrived of a symbol that may continue, once this is half as much again as
+    /// what was read ahead before. So a token that arrives in small pieces isn't read again for
+    /// each piece. Reading a symbol that begins with these bytes continues after them.
     pub fn read_ahead(&mut self, front: &[u8])
         requires { FitsSymbol front.now }
     {
@@ -166,7 +166,8 @@ impl<M: Mangling> Workspace<M> {
         self.link()
     }
 
-    /// Goes over the rows of the symbol with these bytes, whose shape was read.
+    /// Runs the driver over the rows of the symbol with these bytes, after the symbol's shape was
+    /// read.
     #[inline(always)]
     fn run(&mut self) -> Result<(), Refusal>
         requires fits { FitsSymbol self.old.bytes.items }
@@ -185,7 +186,7 @@ impl<M: Mangling> Workspace<M> {
         Ok(())
     }
 
-    /// The symbol whose rows the driver has gone over, which takes the bytes.
+    /// The symbol, once the driver has run over its rows. The symbol takes the bytes along.
     #[inline(always)]
     fn finish(&mut self) -> M::Symbol
         requires { IsLinker M.mangled.table (M.Linked.view self.old.bytes.items) self.old.bytes.items self.old.shape.rows self.old.shape.steps
@@ -201,7 +202,7 @@ impl<M: Mangling> Workspace<M> {
         finished::<M>(bytes, &self.shape, &mut self.linked, &self.driver)
     }
 
-    /// Links the symbol with these bytes, whose shape was read.
+    /// Links the symbol with these bytes, after its shape was read.
     fn link(&mut self) -> Result<M::Symbol, Refusal>
         requires fits { FitsSymbol self.old.bytes.items }
         requires rows { AreRowsOf M.mangled.table self.old.bytes.items self.old.shape.rows }
@@ -224,7 +225,8 @@ impl<M: Mangling> Workspace<M> {
     ///
     /// `Malformed` at the first bad byte of a symbol that isn't well shaped, `BadReference` and `BadValue` at the first bad
     /// token of one that is, `Memory` where a list couldn't grow.
-    // Not inlined in printing and pressing, it took 0.3 % more instructions over real Rust symbols.
+    // When this function wasn't inlined in printing and pressing, real Rust symbols took 0.3 % more
+    // instructions.
     #[inline(always)]
     pub fn read(&mut self, s: &[u8]) -> Result<M::Symbol, Refusal>
         requires { FitsSymbol s.now }
@@ -253,7 +255,7 @@ impl<M: Mangling> Workspace<M> {
     ///
     /// # Errors
     ///
-    /// `TooLong` exactly where it costs more, `Memory` where a list couldn't grow. The list is then as it was.
+    /// `TooLong` exactly where the text costs more, `Memory` where a list couldn't grow. The list is then as it was.
     pub fn print(
         &mut self,
         symbol: &M::Symbol,
@@ -283,7 +285,7 @@ impl<M: Mangling> Workspace<M> {
     ///
     /// # Errors
     ///
-    /// Those of `read`, and `TooLong` exactly where the text costs more. The list is then as it was.
+    /// The refusals of `read`, and `TooLong` exactly where the text costs more than the limit. The list is then as it was.
     pub fn demangle_into(
         &mut self,
         s: &[u8],
@@ -307,7 +309,7 @@ impl<M: Mangling> Workspace<M> {
     ///
     /// # Errors
     ///
-    /// Those of `demangle_into`.
+    /// The refusals of `demangle_into`.
     fn demangle_by_rows(
         &mut self,
         s: &[u8],

@@ -1,4 +1,4 @@
--- Bytes that are copied with more bytes after them, which are cut off again.
+-- Bytes that are copied together with more bytes after them; the additional bytes are cut off again.
 use Rattle.std.proofs.Common.{◌≡◌, ℕ, ◌+◌, ◌-◌, ◌≤◌, List, ◌++◌, length, take, drop, ap, ◌∙◌, arith}
 use Rattle.std.proofs.lemmas.List.{take-take}
 use Rattle.std.proofs.Math.Seq.{take-append-add}

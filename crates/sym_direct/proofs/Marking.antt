@@ -79,7 +79,7 @@ no-run bytes at within = record {
   each = λ k low high. absurd (omega (arith, low, high));
 }
 
--- a run, and another one after it
+-- a run and another one after it are one run
 pub longer-run : (bytes : List ℕ) (from at to : ℕ) → IsRun bytes from at → IsRun bytes at to → IsRun bytes from to
 longer-run bytes from at to run more = record {
   after = omega (arith, run.after, more.after);
@@ -106,7 +106,7 @@ front-plain (byte ∷ bytes) zero each k d less = absurd (omega (arith, less))
 front-plain (byte ∷ bytes) (suc size) each zero d less = λ e. omega (arith, each 0 (omega arith), e)
 front-plain (byte ∷ bytes) (suc size) each (suc k) d less = front-plain bytes size (λ j small. each (suc j) (omega (arith, small))) k d (omega (arith, less))
 
--- first bytes that are neither marks nor 0 are visible outside of stretches
+-- leading bytes that are neither marks nor 0 are visible outside of stretches
 front-visible : (all : List ℕ) (size : ℕ) → size ≤ length all → ((k : ℕ) → k < size → 2 < get_or all k 0)
     → take size all ++ visible 0 (drop size all) ≡ visible 0 all
 front-visible all zero within each = refl
@@ -116,7 +116,7 @@ front-visible (byte ∷ bytes) (suc size) within each =
     ap (λ l. byte ∷ l) (front-visible bytes size (omega (arith, within)) (λ k less. each (suc k) (omega (arith, less))))
     ∙ sym (visible-kept byte bytes (unequal byte opens (λ e. omega (arith, above, e))) (unequal byte closes (λ e. omega (arith, above, e))))
 
--- first bytes that are neither marks nor 0 are left out within a stretch
+-- leading bytes that are neither marks nor 0 are left out within a stretch
 front-hidden : (depth : ℕ) (all : List ℕ) (size : ℕ) → size ≤ length all → ((k : ℕ) → k < size → 2 < get_or all k 0)
     → visible (suc depth) (drop size all) ≡ visible (suc depth) all
 unfolding unless_within

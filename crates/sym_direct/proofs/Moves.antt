@@ -52,7 +52,7 @@ reads-rule l s kind rule taken context at st begun inner after bytes vs w takes 
   unfolds = rw (begins, rest.unfolds, closes) refl;
 }
 
--- a kind takes a rule, which is open then, if the rule may begin with any parts that are there
+-- a kind takes a rule, which is then open, if the rule begins in the same way with any parts at this place
 pub opens-where : {V S C : Type 0} (l : Language V S C) (s : List ℕ) (kind : ℕ) (rule : Rule) (taken : List ℕ) (context : C)
     (os : List (Opened V S C)) (at : ℕ) (st begun : S)
     → TakesRule l.table kind rule taken
@@ -68,7 +68,7 @@ opens-where l s kind rule taken context os at st begun takes begins expects stan
     (begins rest.forest rest.shaped (subst (λ b. StandsAt s (at + length taken) b) (sym rest.spelled) there)) closes)
     (stands-join s at taken bytes stands there))
 
--- a kind takes a rule, which is open then
+-- a kind takes a rule, which is then open
 pub opens : {V S C : Type 0} (l : Language V S C) (s : List ℕ) (kind : ℕ) (rule : Rule) (taken : List ℕ) (context : C)
     (os : List (Opened V S C)) (at : ℕ) (st begun : S)
     → TakesRule l.table kind rule taken

@@ -37,7 +37,7 @@ pub each-unmarked : (P : ℕ → Type 0) → ((byte : ℕ) → P byte → is_mar
 each-unmarked P none [] each = refl
 each-unmarked P none (byte ∷ bytes) each = more-unmarked byte bytes (none byte each.0) (each-unmarked P none bytes each.1)
 
--- a byte that passes a test is no mark, if neither mark passes it
+-- a byte that passes a test is no mark, if neither mark passes the test
 pub test-unmarked : (test : ℕ → Bool) → test opens ≡ false → test closes ≡ false → (byte : ℕ) → test byte ≡ true → is_mark byte ≡ false
 test-unmarked test one two byte is =
     is-no-mark byte (λ e. false≢true (sym one ∙ ap test (sym e) ∙ is)) (λ e. false≢true (sym two ∙ ap test (sym e) ∙ is))

@@ -32,7 +32,7 @@ pub record Reads {V S C : Type 0} (l : Language V S C) (s : List ℕ) (x : Sym) 
   pub spelled : spell shape ≡ bytes
   pub unfolds : unfold_tree (l.reading s) context at shape before ≡ Ok (found vs after)
 
--- the parts of a rule that are left spell these bytes and have these values
+-- the remaining parts of a rule spell these bytes and have these values
 pub record ReadsRest {V S C : Type 0} (l : Language V S C) (s : List ℕ) (rule : Open S C) (known : List V) (todo : List Sym) (at : ℕ)
     (bytes : List ℕ) (before : S) (vs : List V) (after : S) : Type 0 where
   pub forest : Forest
@@ -54,7 +54,7 @@ Comes {V = V} {S = S} l s (o ∷ os) v at state =
     → (l.reading s).close o.rule vs inner ≡ Ok (found w after)
     → Comes l s os (w ∷ []) (at + length bytes) after
 
--- the same for a rule with these values read and these symbols remaining
+-- likewise for a rule with these values read and these symbols remaining
 abbrev pub Needs : {V S C : Type 0} → Language V S C → (s : List ℕ) → List (Opened V S C) → Open S C → (known : List V) → (todo : List Sym)
     → (at : ℕ) → S → Type 0
 Needs {V = V} {S = S} l s os rule known todo at state =
@@ -63,7 +63,7 @@ Needs {V = V} {S = S} l s os rule known todo at state =
     → (l.reading s).close rule vs inner ≡ Ok (found w after)
     → Comes l s os (w ∷ []) (at + length bytes) after
 
--- the same where a symbol is expected next
+-- likewise where a symbol is expected next
 abbrev pub Expects : {V S C : Type 0} → Language V S C → (s : List ℕ) → Sym → C → List (Opened V S C) → (at : ℕ) → S → Type 0
 Expects {V = V} {S = S} l s x context os at state =
     (bytes : List ℕ) (vs : List V) (after : S)

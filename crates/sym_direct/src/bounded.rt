@@ -17,7 +17,7 @@ const BYTES_AT_ONCE: usize = 128;
 /// How many bytes are copied at once, if at most as many are added: most names are no longer.
 const FEW_BYTES: usize = 16;
 
-/// The same, and two bytes more.
+/// `FEW_BYTES`, and two bytes more.
 const BEHIND_PAIR: usize = 18;
 
 /// How many bytes of the list itself are copied at once, if at most as many are repeated.
@@ -78,7 +78,7 @@ impl<T: Copy> Bounded<T> {
         Some(())
     }
 
-    /// How many entries it has.
+    /// How many entries the list has.
     #[inline(always)]
     pub fn len(&self) -> usize
         ensures { result ≡ length self.now.list.items }
@@ -86,7 +86,7 @@ impl<T: Copy> Bounded<T> {
         self.list.len()
     }
 
-    /// The place after its entries.
+    /// The place after the list's entries.
     #[inline(always)]
     pub fn end(&self) -> u32
         ensures { result ≡ length self.now.list.items }
@@ -149,8 +149,8 @@ impl Bounded<u8> {
         self.list.extend_from_slice(bytes).ok()
     }
 
-    /// Adds the bytes from a place to another one, if there is room for them. If they are few,
-    /// bytes after them are copied, too, and removed again: no call is made for most names.
+    /// Adds the bytes from one place to another, if there is room for them. If they are few, bytes
+    /// after them are copied, too, and removed again: no call is made for most names.
     #[inline(always)]
     pub fn push_part(&mut self, bytes: &[u8], from: usize, to: usize) -> Option<()>
         requires from { from ≤ to }
@@ -183,9 +183,9 @@ impl Bounded<u8> {
         Some(())
     }
 
-    /// Adds two bytes, and after them the bytes from a place to another one, if there is room for
-    /// all. If they are few, bytes after them are copied, too, and removed again: one write is
-    /// enough for all.
+    /// Adds two bytes, and after them the bytes from one place to another, if there is room for
+    /// all. If these bytes are few, bytes after them are copied, too, and removed again: one write
+    /// is enough for all.
     #[inline(always)]
     pub fn push_behind_pair(
         &mut self,
@@ -233,7 +233,7 @@ impl Bounded<u8> {
     }
 
     /// Likewise for any number of bytes of the list.
-    // a function of its own, so that few bytes cost no saving of registers
+    // a separate function: otherwise even a few bytes would cost saving registers
     #[inline(never)]
     fn repeat_any(&mut self, from: usize, to: usize) -> Option<()>
         requires from { from ≤ to }
@@ -343,7 +343,8 @@ fn lanes_before_mark(bytes: &[u8], at: usize) -> usize
     first_lane(lanes.simd_le(u8x16::splat(CLOSES)).to_bitmask())
 }
 
-/// The place of the first mark or 0 from a place on, or the end, where the bytes are few.
+/// The place of the first mark or 0 from a place on, or the end of the bytes. Used where the bytes
+/// are few.
 #[inline(always)]
 fn few_end(bytes: &[u8], from: usize) -> usize
     requires within { from ≤ length bytes.now }
@@ -377,7 +378,8 @@ fn run_end(bytes: &[u8], from: usize) -> usize
     few_end(bytes, at)
 }
 
-/// Moves the bytes between two places to the end of the kept ones, and answers how many are kept.
+/// Moves the bytes between two places to the end of the kept bytes, and answers how many bytes are
+/// kept.
 #[inline(always)]
 fn keep_run(bytes: &mut [u8], kept: usize, at: usize, end: usize) -> usize
     requires kept { kept ≤ at }
@@ -394,8 +396,8 @@ fn keep_run(bytes: &mut [u8], kept: usize, at: usize, end: usize) -> usize
     kept + (end - at)
 }
 
-/// Moves what isn't between marks to the front, and answers its length. A 0 among the bytes gives
-/// them up.
+/// Moves what isn't between marks to the front, and answers its length. If a 0 is among the bytes,
+/// they are given up.
 // The loop goes from mark to mark: byte by byte it took a tenth of what `demangle --brief` takes.
 fn close_up(bytes: &mut [u8]) -> Option<usize>
     ensures size { IfSome result (λ kept. kept ≤ length bytes.old) }

@@ -1,4 +1,4 @@
--- What proofs use of the libraries and of definitions, in one place to import it from.
+-- What the proofs use of libraries and definitions, exported from one place.
 pub use Rattle.std.proofs.Common.{Bool, Err, Fits, List, None, Ok, Option, Result, Some, [], add-zero, ap, append_assoc, ap₂, arith, bit_and, bit_or, codes, cond, drop, eqb, false, filter, get_or, inl, inr, leb, length, length-append, map, min, not, refl, replicate, subst, suc, sym, take, true, w8, zero, ℕ, ◌%◌, ◌&&◌, ◌*◌, ◌++◌, ◌+◌, ◌-◌, ◌<◌, ◌^◌, ◌||◌, ◌∙◌, ◌∷◌, ◌≡◌, ◌≤◌}
 pub use Rattle.std.proofs.Math.Bool.{and-true}
 pub use Rattle.std.proofs.Math.Seq.{drop-append_seam, drop-drop, take-add, take-append_seam, take-length}

@@ -62,7 +62,7 @@ IsRead-whole letters escape text runs = λ more. (
   no-segment letters escape (text ++ more) runs ∙ sym (no-segment letters escape more runs),
 )
 
--- outside of escapes, a byte with which no escape begins opens none
+-- outside of escapes, a byte with which no escape begins opens no escape
 outside-after : (byte : ℕ) (a b : Bool) → eqb byte 92 ≡ a → eqb byte 27 ≡ b → not (a || b) ≡ true → escape_after Outside byte ≡ Outside
 outside-after byte true b e f h = cc
 outside-after byte false true e f h = cc

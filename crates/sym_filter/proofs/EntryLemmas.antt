@@ -148,7 +148,7 @@ entries-end letters answers held dots false place h =
 pub entries-same : (letters : Letters) (answers : Answering) (words : Words) (more : List ℕ) → words.letters ≡ letters → entries_from letters answers (held_of words) words.past words.place more ≡ entries_after answers words more
 entries-same letters answers words more same = ap (λ (l : Letters). entries_from l answers (held_of words) words.past words.place more) (sym same)
 
--- a filter that holds nothing has the entries that follow still to come
+-- for a filter that holds nothing, the entries still to come are those of the bytes that follow
 pub entries-nothing : (letters : Letters) (answers : Answering) (words : Words) (more : List ℕ) → words.letters ≡ letters → held_of words ≡ [] → words.past ≡ false → words.place ≡ START → entries_after answers words more ≡ entries_in_segment letters answers more
 entries-nothing letters answers words more same nothing past start =
     ap (λ (l : Letters). entries_from l answers (held_of words) words.past words.place more) same ∙ ap (λ (h : List ℕ). entries_from letters answers h words.past words.place more) nothing

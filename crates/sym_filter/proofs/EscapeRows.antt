@@ -1,4 +1,4 @@
--- Bytes that are escapes, bytes that aren't, and texts cut after theirs, by computing.
+-- Bytes that are escapes, bytes that aren't, and texts cut after their escapes, by computing.
 use Rattle.sym_filter.proofs.Basics.{◌≡◌, List, [], ◌∷◌, ◌++◌, ℕ, true, false, codes, refl, is_escape, segments_of}
 
 abbrev string : List ℕ → List ℕ

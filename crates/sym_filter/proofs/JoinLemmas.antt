@@ -1,4 +1,4 @@
--- Changing the runs of a text that is cut at a byte that belongs to no run.
+-- Changing the runs of a text that is cut at a byte outside of runs.
 use Rattle.sym_filter.proofs.Basics.{◌≡◌, ℕ, ◌≤◌, Bool, true, false, cond, eqb, leb, ◌&&◌, ◌||◌, List, [], ◌∷◌, ◌++◌, refl, ap, ap₂, sym, ◌∙◌, append_assoc, arith, flat_map, cond-false, eqb-true, leb-false, lt-leb, true≢false, append-nil, flat_map-cons, Letters, Any, Ascii, Within, Escape, Outside, Backslash, Octal, Octal3, Hex, Hex0, Hex00, Hex001, Three, Two, One, Esc, Sequence, is_between, is_byte_of, after_digit, cuts_after, escape_after, goes_on_after, only, segment_from, segments_after, is_blank_name, is_esc_digit, is_hex_digit, is_lead, is_letter, is_parameter, Answering, filtered_segment, first_run, with_later_runs, with_runs, replaced_at, FilteredByJoinsAt, is_in_escapes}
 use Rattle.sym_filter.proofs.CarryLemmas.{filtered-is}
 

@@ -1,4 +1,4 @@
--- From the mask of sixteen bytes to the bytes at the front that are of a class.
+-- How the mask of sixteen bytes gives the bytes at the front that belong to a class.
 use Rattle.sym_filter.proofs.Basics.{◌≡◌, ℕ, ◌+◌, ◌%◌, ◌^◌, ◌<◌, ◌≤◌, Bool, true, false, not, ◌||◌, List, [], ◌∷◌, map, length, take, drop, get_or, replicate, Fits, w8, refl, sym, ap, ap₂, ◌∙◌, subst, arith, inl, inr, agree_below, agree_below_at, and_parts, and_from, not-true, cases_eq, eq-eqb, ne_eqb, cond-true, cond-false, map-map, mask_l-mod, length-chunk, get_or-chunk, leading_from_mask_l, trailing_mask_l, list_all-from_AllPass, prefix_len-le-length, prefix_len_passes, list_all-append, take-add, prefix_len, list_all, Letters, Any, Ascii, Within, first_set, is_byte_of, is_run_byte}
 use Rattle.std.proofs.lemmas.List.{drop-drop, length-map, length-take, get_or-take, get_or-drop}
 use Rattle.std.proofs.lemmas.List.Elements.{All-from_get_or}
@@ -46,7 +46,7 @@ module _ (q : ℕ → Bool) (d : List ℕ) (i r : ℕ) (z : List ℕ) (room : i 
       subst (λ x. stops x ≡ false) (get_or-chunk i 16 d k 0 (omega (arith, front-within)))
       (not-true _ (prefix_len_passes (λ x. not (stops x)) (chunk i 16 d) k 0 (omega (arith, counted))))
 
-  -- each byte of the front, at which no lane stops, passes q
+  -- each byte of the front passes q, since no lane of the front stops
   front-passes : agree_below (λ x. stops x || q x) (λ _. true) 256 ≡ true → list_all q (take r (drop i d)) ≡ true
   front-passes all =
       list_all-from_AllPass q (take r (drop i d)) (All-from_get_or (λ x. q x ≡ true) (take r (drop i d)) 0 (λ k inside.

@@ -1,4 +1,4 @@
--- What is written for a word by where the name of a symbol begins in it.
+-- What is written for a word, depending on where a symbol's name begins in the word.
 use Rattle.sym_filter.proofs.Basics.{◌≡◌, true, false, List, [], ◌++◌, ℕ, refl, ap, Letters, Any, Ascii, Within, Place, before_mark, from_mark, begins_within, Answering, changed, name_in, named_in, within, word_or_text, written}
 use Rattle.sym_filter.proofs.RunLemmas.{word_or_text-unnamed}
 

@@ -29,7 +29,7 @@ nothing_left : (place : Place) (rest : List ℕ) → length rest ≡ 0 → from_
 nothing_left place [] h = refl
 nothing_left place (byte ∷ rest) h = absurd (omega arith)
 
--- at the end of a word no name begins
+-- no name begins at the end of a word
 pub no_name : (place : Place) (word : List ℕ) (at : ℕ) → length word ≤ at → from_mark place (drop at word) ≡ drop at word
 no_name place word at past = nothing_left place (drop at word) (omega (arith, length-drop at word))
 
@@ -47,7 +47,7 @@ name_of place held word other at same same' is =
 pub front_of : (place : Place) (held word other : List ℕ) (at : ℕ) → word ≡ held → other ≡ held → before_mark place word ≡ take at word → take at other ≡ before_mark place held
 front_of place held word other at same same' is = ap (take at) same' ∙ sym (ap (before_mark place) (sym same) ∙ is ∙ ap (take at) same)
 
--- a word without dots at its end has none at the end of its name
+-- if a word has no dots at its end, its name has none at its end either
 tail-word : (byte : ℕ) (bytes : List ℕ) (b : Bool) → cond b [] (byte ∷ word_of bytes) ≡ byte ∷ bytes → word_of bytes ≡ bytes
 tail-word byte bytes true h = cc
 tail-word byte bytes false h = ap (drop 1) h

@@ -39,7 +39,7 @@ pub place_of-none : (letters : Letters) (place : Place) (text : List ℕ) (i : �
 place_of-none letters place text zero h = refl
 place_of-none letters place text (suc i) h = absurd (omega arith)
 
--- a stretch begins after a byte that belongs to none
+-- a stretch begins after a byte that belongs to no stretch
 pub place_of-start : (letters : Letters) (place : Place) (text : List ℕ) (i d : ℕ) → 0 < i → i ≤ length text → in_stretch letters (get_or text (i - 1) d) ≡ false → START ≡ place_of letters place (take i text)
 place_of-start letters place text i d some inside other =
     let at : i - 1 + 1 ≡ i = omega arith in

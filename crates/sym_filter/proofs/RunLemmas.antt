@@ -1,4 +1,4 @@
--- Facts on runs and on what a filter holds back of one.
+-- Facts on runs and on what a filter holds back of a run.
 use Rattle.sym_filter.proofs.Basics.{zero, ◌≡◌, ℕ, suc, ◌-◌, ◌≤◌, Bool, true, false, cond, eqb, leb, ◌&&◌, List, [], ◌∷◌, ◌++◌, length, drop, refl, sym, ap, ap₂, ◌∙◌, arith, Option, Some, None, Result, replicate, filter, list_all, result_ok, and_parts, and_from, and_left, and_right, cond-true, cond-false, ne_eqb, eqb-true, true≢false, list_all-append, append-nil, length-drop, drop-append_seam, and-true, is_run_byte, is_byte_of, Answering, first_run, later_runs, with_later_runs, with_runs, replaced, is_named, text_for, word_or_text, word_of, dots_after, Kind, Letters, Any, Ascii, Within, kind_of, kind_by_beginning, symbol_of, LONGEST_WORD}
 use Rattle.sym_core.specs.declared.refusal.Refusal.{Refusal}
 
@@ -180,7 +180,7 @@ pub text_for-named : (answers : Answering) (word : List ℕ) (kind : Kind) (answ
 unfolding text_for
 text_for-named answers word kind answer h is = rw (h, is) refl
 
--- the symbol of a word, by its answer
+-- the text for a word follows from the answer for its symbol
 pub text_of-symbol : (answers : Answering) (word symbol : List ℕ) (kind : Kind) (answer : Result (List ℕ) Refusal) → kind_of word ≡ Some kind → symbol ≡ symbol_of kind word → answers kind symbol ≡ answer → text_for answers word ≡ result_ok answer
 text_of-symbol answers word symbol kind answer named same is = text_for-named answers word kind answer named (ap (answers kind) (sym same) ∙ is)
 

@@ -35,7 +35,7 @@ Consumes-keeps (Some xs') None c xs h i = absurd h
 Consumes-keeps (Some xs') (Some bs) None xs h i = absurd i
 Consumes-keeps (Some xs') (Some bs) (Some cs) xs h i = h ∙ ap (λ (t : List ℕ). xs ++ t) (sym i)
 
--- a list was written up to a place, and more of it from there
+-- a list was written up to a place, and more of it was written from there
 pub Appends-part : (a b c : Option (List ℕ)) (xs : List ℕ) (i n : ℕ) → Appends a b (take i xs) → Appends b c (take n (take (length xs - i) (drop i xs))) → Appends a c (take (i + n) xs)
 Appends-part a b c xs i n h j =
     let rest : take (length xs - i) (drop i xs) ≡ drop i xs = ap (λ k. take k (drop i xs)) (sym (length-drop i xs)) ∙ take-length (drop i xs) in
@@ -75,7 +75,7 @@ take-none zero [] h = refl
 take-none zero (x ∷ xs) h = refl
 take-none (suc n) xs h = absurd (omega arith)
 
--- a list after its first items were overwritten through a slice of it
+-- a list after its first items were overwritten through a slice of the list
 pub room-back : (new items : List ℕ) (len : ℕ) → length new ≡ len → take len (new ++ drop (length new) items) ≡ new
 room-back new items len h = ap (λ n. take n (new ++ drop (length new) items)) (sym h) ∙ take-append_seam new (drop (length new) items)
 

@@ -18,7 +18,7 @@ begun-changed letters answers place run begins begun = with_word-begun letters (
 pub begun-named : (letters : Letters) (place : Place) (run : List ℕ) → may_begin letters place ≡ true → is_begun run ≡ true → from_word letters (named_in letters) place run ≡ named_in letters place run
 begun-named letters place run begins begun = from_word-begun letters (named_in letters) place run begins begun (named-nothing letters place)
 
--- a run whose word is already too long has too long a word however the run continues
+-- if a run's word is already too long, it is too long however the run continues
 pub too_far : (run rest : List ℕ) → LONGEST_WORD < length (word_of run) → fits (word_of (run ++ rest)) ≡ false
 too_far run rest long = lt-leb (length (word_of (run ++ rest))) LONGEST_WORD (omega (arith, word_of-longer run rest))
 

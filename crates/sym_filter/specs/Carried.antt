@@ -24,7 +24,7 @@ after_backslash byte =
     else (if byte == 48 then Octal
     else only (byte == 101) Esc)))
 
--- the escape after a byte: `esc` if it is this digit of ESC, or else `other` if it is a hexadecimal digit
+-- the escape after a byte: `esc` if the byte is this digit of ESC, otherwise `other` if the byte is a hexadecimal digit
 abbrev pub after_digit : (byte digit : ℕ) → (esc other : Escape) → Escape
 after_digit byte digit esc other = if is_esc_digit digit byte then esc else only (is_hex_digit byte) other
 
@@ -89,7 +89,7 @@ rest_of_text answers words escape more =
     rest_after answers words (segment_from words.letters escape more)
     ++ flat_map (filtered_segment words.letters answers) (segments_after words.letters escape more)
 
--- the final tally, where these bytes follow
+-- the final tally if these bytes follow
 abbrev pub tally_of_text : Answering → Words → Escape → List ℕ → Tally
 tally_of_text answers words escape more =
     tally_with (answers_at words.letters answers) (tally_after answers words (segment_from words.letters escape more))

@@ -11,8 +11,8 @@ abbrev pub IsAppended : {A : Type 0} → Result (List ℕ) Refusal → List ℕ 
 IsAppended answer old new (Ok done) = (text : List ℕ) × (answer ≡ Ok text) × (new ≡ old ++ text)
 IsAppended answer old new (Err refusal) = (refusal ≢ refusals.Memory → answer ≡ Err refusal) × (new ≡ old)
 
--- A symbol with this answer: its text is appended, or else nothing is; and if it is read, the counts are its own. Want
--- of memory says nothing of the symbol.
+-- A symbol with this answer: its text is appended, or else nothing is; and if the symbol is read, the counts are those
+-- of the symbol. Want of memory says nothing of the symbol.
 abbrev pub IsDemangled : Result (List ℕ) Refusal → (Counts → Type 0) → List ℕ → List ℕ → Demangled → Type 0
 IsDemangled answer are_counts old new (Text counts) =
     are_counts counts × ((text : List ℕ) × (answer ≡ Ok text) × (new ≡ old ++ text))

@@ -33,11 +33,11 @@ later_entries letters answers (byte ∷ bytes) =
     if is_byte_of letters byte then later_entries letters answers bytes
     else newline_of byte ++ (left_in letters answers (first_run letters bytes) ++ later_entries letters answers bytes)
 
--- the newlines and the words that are left, of a segment, in order
+-- the newlines of a segment and the words left in it, in order
 abbrev pub entries_in_segment : Letters → Answering → List ℕ → List Entry
 entries_in_segment letters answers text = left_in letters answers (first_run letters text) ++ later_entries letters answers text
 
--- the newlines and the words that are left, of a text whose words have these letters
+-- the newlines of a text whose words have these letters, and the words left in the text
 abbrev pub entries_of : Letters → Answering → List ℕ → List Entry
 entries_of Any answers text = entries_in_segment Any answers text
 entries_of Ascii answers text = entries_in_segment Ascii answers text

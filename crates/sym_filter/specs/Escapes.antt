@@ -31,7 +31,7 @@ abbrev pub follows_esc : List ℕ → Bool
 follows_esc [] = false
 follows_esc (byte ∷ bytes) = byte == 91 && ends_sequence bytes
 
--- what follows a backslash: these octal digits, which spell ESC, and what may follow ESC
+-- what follows a backslash and a 0: the digits `esc`, the rest of ESC in octal, and what may follow ESC
 abbrev pub follows_octal : (esc : List ℕ) → List ℕ → Bool
 follows_octal [] bytes = follows_esc bytes
 follows_octal (digit ∷ esc) [] = false
@@ -47,8 +47,8 @@ are_digits [] bytes = is_empty bytes
 are_digits (digit ∷ esc) [] = false
 are_digits (digit ∷ esc) (byte ∷ bytes) = is_hex_digit byte && are_digits esc bytes
 
--- As many hexadecimal digits as `esc` has, which spells ESC. If these digits spell ESC, too, what may follow ESC may come after
--- them.
+-- As many hexadecimal digits as `esc`, the spelling of ESC, has. If the digits spell ESC themselves, what may follow ESC may
+-- follow them.
 abbrev pub follows_hex : (esc : List ℕ) → List ℕ → Bool
 follows_hex [] bytes = is_empty bytes || follows_esc bytes
 follows_hex (digit ∷ esc) [] = false
@@ -84,13 +84,13 @@ abbrev pub first_segment : (since : List ℕ) → List ℕ → List ℕ
 first_segment since [] = []
 first_segment since (byte ∷ text) = byte ∷ (if is_escape (since_lead since byte) then [] else first_segment (since_lead since byte) text)
 
--- the segments after the first: one, maybe of no byte, after the end of each escape
+-- the segments after the first: one, maybe empty, after the end of each escape
 abbrev pub later_segments : (since : List ℕ) → List ℕ → List (List ℕ)
 later_segments since [] = []
 later_segments since (byte ∷ text) =
     if is_escape (since_lead since byte) then first_segment (since_lead since byte) text ∷ later_segments (since_lead since byte) text
     else later_segments (since_lead since byte) text
 
--- the segments of a text: it is cut after each of its escapes
+-- the segments of a text, which is cut after each of its escapes
 abbrev pub segments_of : List ℕ → List (List ℕ)
 segments_of text = first_segment [] text ∷ later_segments [] text

@@ -57,14 +57,15 @@ may_begin letters place = opens letters place.stretch place.last
 abbrev pub closes : Letters → ℕ → Bool
 closes letters byte = in_stretch letters byte && not (begins_within letters && is_divider byte)
 
--- A run, changed by a function from the first underscore on at which a word may begin. The function also gets the place
--- of this underscore.
+-- A run whose bytes from the first underscore at which a word may begin are changed by a function. The function also
+-- gets the place of this underscore.
 abbrev pub with_word : Letters → (Place → List ℕ → List ℕ) → Place → List ℕ → List ℕ
 with_word letters change place [] = []
 with_word letters change place (byte ∷ run) =
     if may_begin letters place && byte == 95 then change place (byte ∷ run) else byte ∷ with_word letters change (place_after letters place byte) run
 
--- what a function finds in a run from that underscore on, or nothing where there is no such underscore
+-- what a function finds in a run from the first underscore at which a word may begin, or nothing if there is no such
+-- underscore
 abbrev pub from_word : Letters → (Place → List ℕ → List ℕ) → Place → List ℕ → List ℕ
 from_word letters find place [] = []
 from_word letters find place (byte ∷ run) =

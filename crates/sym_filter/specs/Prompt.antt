@@ -9,8 +9,8 @@ use Rattle.sym_filter.specs.Held.{IsHeld}
 use Rattle.sym_filter.specs.Runs.{Answering, filtered_at}
 
 -- A text was read and bytes were written. Whatever follows, the filtered text is those bytes and what is still to come.
--- What is still to come depends on no more of the text than a front of one word, of at most the longest word's bytes, the
--- dots after it, the place where it begins, and the part of an escape that was read.
+-- What is still to come depends only on a front of one word (no longer than the longest word) and its place, the dots
+-- after the front, and the part of an escape that was read.
 pub record IsPrompt (letters : Letters) (answers : Answering) (coming coming' taken taken' : Option (List ℕ)) : Type 0 where
   pub text : List ℕ
   pub written : List ℕ

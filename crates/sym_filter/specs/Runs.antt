@@ -16,12 +16,12 @@ use Rattle.sym_filter.specs.Kinds.{kind_of, symbol_of, underscore_of}
 use Rattle.sym_filter.specs.Marks.{before_mark, from_mark}
 use Rattle.sym_filter.specs.Places.{START, from_word, with_word}
 
--- the run at the front of a text, without bytes where the text begins with a byte of no run
+-- the run at the front of a text; it is empty if the text begins with a byte that belongs to no run
 abbrev pub first_run : Letters → List ℕ → List ℕ
 first_run letters [] = []
 first_run letters (byte ∷ bytes) = if is_byte_of letters byte then byte ∷ first_run letters bytes else []
 
--- the runs after the first: one after each byte that belongs to none; a run may have no byte
+-- the runs after the first: one after each byte that belongs to no run; a run may have no byte
 abbrev pub later_runs : Letters → List ℕ → List (List ℕ)
 later_runs letters [] = []
 later_runs letters (byte ∷ bytes) =
@@ -61,11 +61,11 @@ is_read (Ok text) = true
 is_read (Err TooLong) = true
 is_read (Err refusal) = false
 
--- the text that replaces a word: that of its symbol, where the word names one and it has a text
+-- the text that replaces a word: its symbol's text, if the word names a symbol that has a text
 unfoldable pub text_for : Answering → List ℕ → Option (List ℕ)
 text_for answers word = option_and_then (λ kind. result_ok (answers kind (symbol_of kind word))) (kind_of word)
 
--- the text that replaces a word, or the word where there is none
+-- the text that replaces a word, or the word itself if there is no such text
 abbrev pub word_or_text : Answering → List ℕ → List ℕ
 word_or_text answers word = unwrap_or (text_for answers word) word
 
@@ -104,7 +104,7 @@ abbrev pub text_of_front : Answering → List ℕ → Option (List ℕ)
 text_of_front answers word = followed_by (drop (length (trimmed word)) word) (text_for answers (trimmed word))
 
 -- The last try, for a word with bytes that aren't ASCII: each longest part in ASCII is replaced by its text, if any of
--- them has one.
+-- these parts has one.
 abbrev pub text_of_parts : Answering → List ℕ → Option (List ℕ)
 text_of_parts answers word =
     if list_any is_wide word && list_any (has_text answers) (runs_of Ascii word) then Some (with_runs Ascii (replaced answers) word) else None
@@ -126,7 +126,7 @@ Agree answers other (word ∷ words) = (text_for answers word ≡ text_for other
 abbrev pub TriesDecide : Type 0
 TriesDecide = (answers other : Answering) (word : List ℕ) → Agree answers other (tried word) → text_of_tries answers word ≡ text_of_tries other word
 
--- the words that are tried have together at most three times the word's bytes
+-- the words that are tried have together at most three times as many bytes as the word
 abbrev pub TriesAreFew : Type 0
 TriesAreFew = (word : List ℕ) → sum_by length (tried word) ≤ 3 * length word
 
@@ -146,7 +146,7 @@ answers_at Within answers = within answers
 
 -- ## The word of a run
 
--- whether a word, or what is held of one, is short enough to name a symbol
+-- whether a word, or the part of a word that is held, is short enough to name a symbol
 abbrev pub fits : List ℕ → Bool
 fits word = nat_le (length word) LONGEST_WORD
 

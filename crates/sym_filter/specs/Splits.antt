@@ -24,8 +24,8 @@ is_in_escapes Any byte = false
 is_in_escapes Ascii byte = false
 is_in_escapes Within byte = is_letter byte || is_parameter byte || is_lead byte || byte == 91
 
--- The text is split into longest stretches: the runs have only bytes of runs, and the bytes between them are of no run.
--- Where words begin within runs, the text has no escape.
+-- The text is split into longest stretches: the runs have only bytes of runs, and the bytes between them belong to no
+-- run. Where words begin within runs, the text has no escape.
 pub record IsSplitAt (letters : Letters) (text first : List ℕ) (rest : List (ℕ × List ℕ)) : Type 0 where
   pub whole : text ≡ joined first rest
   pub uncut : cut_off letters text ≡ []
@@ -37,8 +37,8 @@ abbrev pub FilteredBySplitsAt : Letters → Type 0
 FilteredBySplitsAt letters = (answers : Answering) (text first : List ℕ) (rest : List (ℕ × List ℕ)) → IsSplitAt letters text first rest →
     filtered_at letters answers text ≡ joined (replaced_at letters answers first) (map (λ next. (next.0, replaced_at letters answers next.1)) rest)
 
--- The filtered text of two texts, joined by a byte that belongs to no run and to no escape, is their filtered texts
--- joined by that byte.
+-- If two texts are joined by a byte that belongs to no run and to no escape, filtering the result gives their filtered
+-- texts joined by that byte.
 abbrev pub FilteredByJoinsAt : Letters → Type 0
 FilteredByJoinsAt letters = (answers : Answering) (text more : List ℕ) (byte : ℕ) → is_byte_of letters byte ≡ false → is_in_escapes letters byte ≡ false →
     filtered_at letters answers (text ++ (byte ∷ more)) ≡ filtered_at letters answers text ++ (byte ∷ filtered_at letters answers more)

@@ -38,7 +38,7 @@ writer_faults (Err Memory) = 0
 abbrev pub BeginsWith : List ℕ → List ℕ → Type 0
 BeginsWith whole front = (rest : List ℕ) × (whole ≡ front ++ rest)
 
--- Bytes are put after those that wait to be written. A front of them all goes out, and the rest waits.
+-- Bytes are put after those that wait to be written. A front of all these bytes goes out, and the rest waits.
 pub record Puts (taken taken' : Option (List ℕ)) (waiting waiting' bytes : List ℕ) : Type 0 where
   pub gone : List ℕ
   pub writes : Appends taken taken' gone

@@ -22,14 +22,14 @@ pub enum Demangled {
     Refused(Refusal),
 }
 
-/// Gives the text of a symbol, or refuses it, at a limit and a detail of its own.
+/// Gives the text of a symbol at the demangler's own limit and detail, or refuses the symbol.
 pub trait Demangler {
-    /// The lists that it works on, kept from one symbol to the next.
+    /// The lists that the demangler works on, kept from one symbol to the next.
     type Lists: Drop;
 
     // the answer for the symbol of a word of this kind: its text, or why it has none
     ghost answer: { Self → Kind-type → List ℕ → Result (List ℕ) Refusal-type };
-    // whether counts are those of a symbol that is read, by its language and its bytes
+    // whether counts are those of a symbol that is read, given its language and its bytes
     ghost are_counts: { Self → Lang-type → List ℕ → Counts-type → Type 0 };
 
     /// Lists to work on.
@@ -40,7 +40,8 @@ pub trait Demangler {
     fn read_ahead(&self, lists: &mut Self::Lists, lang: Lang, front: &[u8])
         requires { FitsSymbol front.now };
 
-    /// Appends the text of a word's symbol, or nothing. Want of memory may refuse any symbol.
+    /// Appends the text of a word's symbol, or nothing. Any symbol may be refused for want of
+    /// memory.
     fn demangle(
         &self,
         lists: &mut Self::Lists,
@@ -55,8 +56,8 @@ pub trait Demangler {
     ///
     /// # Errors
     ///
-    /// Why the symbol has no text; for a symbol that is read this is `TooLong`. Want of memory may
-    /// refuse any symbol.
+    /// Why the symbol has no text; for a symbol that is read this is `TooLong`. Any symbol may be
+    /// refused for want of memory.
     fn append(
         &self,
         lists: &mut Self::Lists,

@@ -1,4 +1,4 @@
-// Escapes of strings and of terminals. Where words begin within runs, a text is cut after each of them.
+// Escapes of strings and of terminals. Where words begin within runs, a text is cut after each escape.
 ghost use Rattle.std.specs.Prelude.{◌≡◌, ◌≤◌, ◌<◌, length, take, true, false};
 ghost use Rattle.std.specs.List.{list_all};
 ghost use Rattle.sym_filter.specs.Carried.{IsRead, after_backslash, after_digit, ends_with, escape_after, goes_on_after, only};
@@ -166,7 +166,7 @@ fn is_parameter(byte: u8) -> bool
     b'0' <= byte && byte <= b';'
 }
 
-/// How many bytes at the front of a text are no backslash and no ESC, or fewer: sixteen are tested at once.
+/// How many bytes at the front of a text are neither a backslash nor ESC, or a smaller number: sixteen bytes are tested at once.
 fn before_lead(text: &[u8]) -> usize
     ensures within { result ≤ length text.now }
     ensures no_lead { list_all is_no_lead (take result text.now) ≡ true }
@@ -199,8 +199,7 @@ fn blocks_before_lead(text: &[u8]) -> usize
     length
 }
 
-/// A front of a text: its bytes, whether they end with an escape, after which the text is cut, and the escape that is
-/// open then.
+/// A front of a text: its bytes, whether they end with an escape (after it the text is cut), and the escape that is open after them.
 #[derive(Clone, Copy, Debug, PartialEq, Eq)]
 pub struct Segment {
     pub length: usize,

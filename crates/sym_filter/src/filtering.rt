@@ -19,10 +19,10 @@ use crate::words::{Taken, Tally, Words};
 use std::alloc::{AllocError, Global};
 
 /// How many bytes are read at a time. Bytes that wait are written once they are at least this many.
-// With four times as many, a start took a quarter more instructions, since the room for them is cleared.
+// With four times as many, starting the program took a quarter more instructions, since the room for them is cleared.
 const READ_SIZE: usize = 16_384;
 
-/// Reads all that the source gives, and writes it with each word that names a symbol replaced by the text that a demangler gives it.
+/// Reads all that the source gives, and writes it; each word that names a symbol is replaced by the text that a demangler gives for it.
 pub fn filter_with<R: Source, W: Sink, D: Demangler>(
     alloc: Global,
     reader: &mut R,
@@ -41,8 +41,8 @@ pub fn filter_with<R: Source, W: Sink, D: Demangler>(
     filter_words(alloc, reader, writer, demangler, Letters::Any)
 }
 
-/// The filter over any demangler, with words of these letters. What cannot be decided yet is held back: at most the
-/// longest word, and a count of dots after it. What is decided after a read is written before the next.
+/// The filter over any demangler, with words of these letters. What cannot be decided yet is held back: at most the longest word, and a
+/// count of dots after it. What is decided after a read is written before the next read.
 pub fn filter_words<R: Source, W: Sink, D: Demangler>(
     alloc: Global,
     reader: &mut R,
@@ -86,8 +86,8 @@ pub fn filter_telling<R: Source, W: Sink, D: Demangler, P: Report>(
     filter_promptly(alloc, reader, writer, demangler, letters, report)
 }
 
-/// The filter with a report, over a source that may be read only where the filter is prompt: at each read all that is decided
-/// was written, and what waits is a front of one word, of at most 65,536 bytes, and a count of dots.
+/// The filter with a report, over a source that may be read only where the filter is prompt. At each read all that is decided has been
+/// written, and only a front of one word, of at most 65,536 bytes, and a count of dots wait.
 pub fn filter_promptly<R: PromptSource<W>, W: Sink, D: Demangler, P: Report>(
     alloc: Global,
     reader: &mut R,
@@ -191,8 +191,8 @@ fn take_piece<W: Sink, D: Demangler, P: Report>(
     Ok(())
 }
 
-/// Takes bytes from the front of a text, up to the end of its first escape or all of them, and puts the filtered bytes
-/// that are decided by them after those that wait to be written. Answers how many bytes it took.
+/// Takes bytes from the front of a text: up to the end of its first escape, or all if it has none. Puts the filtered bytes that are decided
+/// by them after the bytes that wait to be written. Answers how many bytes were taken.
 fn take_segment<W: Sink, D: Demangler, P: Report>(
     demangler: &D,
     lists: &mut D::Lists,
@@ -239,7 +239,7 @@ fn take_segment<W: Sink, D: Demangler, P: Report>(
     Ok(segment.length)
 }
 
-/// Gives a report the word that is left at the end of some bytes, if one is.
+/// Gives a report the word that is left at the end of some bytes, if there is one.
 #[inline(always)]
 fn tell_left<P: Report>(report: &mut P, out: &[u8], left: usize) -> Result<(), FilterFault>
     requires report_failures { P.failure_count report.old < 2 ^ 64 - 1 }

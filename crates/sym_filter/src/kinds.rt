@@ -11,7 +11,7 @@ pub const LONGEST_WORD: usize = 65_536;
 pub enum Letters {
     /// All bytes from 0x80, which names of C++ may have. A word is a run.
     Any,
-    /// No others, so that a word ends at a quote that isn't ASCII. A word is a run.
+    /// No other bytes, so that a word ends at a quote that isn't ASCII. A word is a run.
     Ascii,
     /// All bytes from 0x80. A word begins within a run, where the name of a symbol may begin, and ends with the run;
     /// the bytes from 0x80 in a word may belong to no symbol.

@@ -11,17 +11,15 @@ pub fn filtered_by_splits()
     ensures each { (letters : Letters) → FilteredBySplitsAt letters }
 {}
 
-/// A law of the definitions: the filtered text of two texts, joined by a byte that belongs to no run and to no
-/// escape, such as a newline, is their filtered texts joined by this byte. So a text can be cut at the byte,
-/// and its pieces filtered apart.
+/// A law of the definitions: if two texts are joined by a byte that belongs to no run and to no escape, such as a newline, the filtered
+/// text of the whole is their filtered texts joined by this byte. So a text can be cut at the byte, and its pieces filtered apart.
 pub fn filtered_by_joins()
     ensures any { FilteredByJoins }
     ensures each { (letters : Letters) → FilteredByJoinsAt letters }
 {}
 
-/// A law of the definitions: the text for a word that begins within a run depends only on the texts for the words
-/// that are tried; each of these is answered at the limit by itself. The words that are tried have together at most
-/// three times the word's bytes.
+/// A law of the definitions: the text for a word that begins within a run depends only on the texts for the words that are tried; each of
+/// these words is answered at the limit by itself. The words that are tried have together at most three times the word's bytes.
 pub fn tries_decide()
     ensures decide { TriesDecide }
     ensures few { TriesAreFew }

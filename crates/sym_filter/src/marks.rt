@@ -18,7 +18,7 @@ pub(crate) fn mark_in(word: &[u8], place: Place) -> usize
     mark_behind(word, place)
 }
 
-/// Whether a word begins with the name of a symbol, by the two bytes with which most of these begin.
+/// Whether a word begins with the name of a symbol, by the two bytes with which most names of symbols begin.
 #[inline(always)]
 fn begins_with_name(place: Place, word: &[u8]) -> bool
     ensures { result ≡ true → from_mark place word.now ≡ word.now }
@@ -67,7 +67,7 @@ fn front_length(word: &[u8]) -> usize
     length_of_front(word)
 }
 
-/// Whether the second byte of a word is that of something put before a symbol. It isn't in most words, which begin with `_Z` or `_R`.
+/// Whether the second byte of a word is that of something put before a symbol. Most words begin with `_Z` or `_R`, and have no such byte.
 #[inline(always)]
 fn may_have_front(word: &[u8]) -> bool
     ensures { result ≡ false → front_length word.now ≡ 0 }
@@ -106,8 +106,8 @@ fn is_mark(place: Place, rest: &[u8]) -> bool
     }
 }
 
-/// Whether a symbol of a kind may begin at a place. Within a name that is no section's, such as a member's in source
-/// code, the symbol's third byte has to be one with which the names of symbols begin.
+/// Whether a symbol of a kind may begin at a place. Within a name that isn't a section's, such as a member's name in source code, the
+/// symbol's third byte has to be one with which the names of symbols begin.
 fn is_taken(place: Place, kind: Kind, rest: &[u8]) -> bool
     ensures { result ≡ is_taken place.stretch place.last kind rest.now }
 {

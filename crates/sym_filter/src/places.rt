@@ -9,8 +9,7 @@ use crate::kinds::Letters;
 use crate::lanes::{BLOCK, LANES, block_has_no_mark, lanes_before_mark};
 use crate::words::{closes, is_byte_of};
 
-/// The first byte of a stretch. A stretch is a run, or a longest part of one that is ASCII where words begin within
-/// runs.
+/// The first byte of a stretch. A stretch is a run, or, where words begin within runs, a longest part of a run that is ASCII.
 #[derive(Clone, Copy, Debug, PartialEq, Eq)]
 pub enum Stretch {
     /// The stretch has no byte yet.
@@ -165,8 +164,8 @@ fn before_mark(text: &[u8]) -> usize
     blocks_before_mark(text)
 }
 
-/// How many bytes at the front of a text are in blocks of 64 bytes that have no `_`. In a list of symbols and in the
-/// lines of `nm` each block has one.
+/// How many bytes at the front of a text are in blocks of 64 bytes that have no `_`. In a list of symbols, and in the lines of `nm`, each
+/// block has an `_`.
 fn blocks_before_mark(text: &[u8]) -> usize
     requires long { 32 ≤ length text.now }
     requires begins { list_all is_no_mark (take 32 text.now) ≡ true }
@@ -183,7 +182,7 @@ fn blocks_before_mark(text: &[u8]) -> usize
     length
 }
 
-/// Whether a word may begin at a place of a text, by the byte before the place.
+/// Whether a word may begin at a place of a text, given the byte before the place.
 fn is_open(letters: Letters, text: &[u8], at: usize, place: Place) -> bool
     requires { at ≤ length text.now }
     ensures { result ≡ may_begin letters (place_of letters place (take at text.now)) }
@@ -210,7 +209,7 @@ fn place_at(letters: Letters, text: &[u8], at: usize, place: Place) -> Place
 }
 
 /// The place after a text that begins at a place, by the bytes of the last stretch alone.
-// out of line, so that all others pay nothing for it
+// out of line, so that the other cases pay nothing for it
 #[inline(never)]
 fn place_in_stretch(letters: Letters, text: &[u8], at: usize, place: Place) -> Place
     requires { at ≤ length text.now }
@@ -225,7 +224,7 @@ fn place_in_stretch(letters: Letters, text: &[u8], at: usize, place: Place) -> P
     here
 }
 
-/// Where the stretch begins that ends before a place of a text, or 0.
+/// The beginning of the stretch that ends before a place of a text, or 0.
 fn stretch_start(letters: Letters, text: &[u8], at: usize) -> usize
     requires { at ≤ length text.now }
     ensures within { result ≤ at }

@@ -11,9 +11,9 @@ use crate::streams::{Sink, Source};
 pub trait PromptSource<W: Sink> {
     // the bytes still to come, where they are known
     ghost coming: { Self → Option (List ℕ) };
-    // how often it has failed
+    // how often the source has failed
     ghost failure_count: { Self → ℕ };
-    // the reads that it can still answer
+    // the reads that the source can still answer
     ghost reads_left: { Self → ℕ };
     // the source may be read beside a sink
     ghost MayRead: { Self → W → Type 0 };
@@ -31,7 +31,7 @@ pub trait PromptSource<W: Sink> {
         ensures left { IsSome result → reads_left self.new < reads_left self.old }
         ensures left_at_failure { reads_left self.new ≤ reads_left self.old };
 
-    /// How many reads it can still answer. With none left it fails.
+    /// How many reads the source can still answer. With none left, a read fails.
     fn left(&self) -> u64
         ensures { result ≡ reads_left self.now };
 }

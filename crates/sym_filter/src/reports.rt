@@ -5,9 +5,9 @@ ghost use Rattle.sym_filter.specs.Streams.{writer_faults};
 
 use crate::streams::FilterFault;
 
-/// Takes each word of a text that names a symbol and has no text, and the text's bytes, in the text's order.
+/// Takes a text's bytes and, among them, each word that names a symbol and has no text, in the text's order.
 pub trait Report {
-    // how often it has failed
+    // how often the report has failed
     ghost failure_count: { Self → ℕ };
     // the report was given these entries
     ghost Tells: { Self → Self → List Entry → Type 0 };

@@ -41,12 +41,12 @@ impl<T: Drop> From<AllocFailed<T>> for FilterFault {
 pub trait Source {
     // the bytes still to come, where they are known
     ghost coming: { Self → Option (List ℕ) };
-    // how often it has failed
+    // how often the source has failed
     ghost failure_count: { Self → ℕ };
-    // the reads that it can still answer
+    // the reads that the source can still answer
     ghost reads_left: { Self → ℕ };
 
-    /// Reads bytes into a room's front, and says how many; `None` is a failure. In a nonempty room 0 is the end.
+    /// Reads bytes into a room's front, and says how many; `None` is a failure. For a nonempty room, 0 means the end.
     fn read(&mut self, room: &mut [u8]) -> Option<usize>
         requires { failure_count self.old < 2 ^ 64 - 1 }
         ensures within { IfSome result (λ count. count ≤ length room.new) }
@@ -57,11 +57,11 @@ pub trait Source {
         ensures left { IsSome result → reads_left self.new < reads_left self.old }
         ensures left_at_failure { reads_left self.new ≤ reads_left self.old };
 
-    /// How often it has failed.
+    /// How often the source has failed.
     fn failures(&self) -> u64
         ensures { result ≡ failure_count self.now };
 
-    /// How many reads it can still answer. With none left it fails.
+    /// How many reads the source can still answer. With none left it fails.
     fn left(&self) -> u64
         ensures { result ≡ reads_left self.now };
 }
@@ -70,7 +70,7 @@ pub trait Source {
 pub trait Sink {
     // the bytes taken so far, where they are known
     ghost taken: { Self → Option (List ℕ) };
-    // how often it has failed
+    // how often the sink has failed
     ghost failure_count: { Self → ℕ };
 
     /// Takes bytes from the front of a piece, and says how many. `None` is a failure, with none taken.
@@ -81,7 +81,8 @@ pub trait Sink {
         ensures failed { IfNone result (Keeps (taken self.old) (taken self.new)) }
         ensures failures { failure_count self.new ≡ failure_count self.old + write_failures result bytes.now };
 
-    /// How often it has failed. A write that took no byte of a nonempty piece counts as a failure.
+    /// How often the sink has failed. A write that took no byte of a nonempty piece counts as a
+    /// failure.
     fn failures(&self) -> u64
         ensures { result ≡ failure_count self.now };
 }

@@ -12,9 +12,8 @@ use crate::words::{run_front, word_end};
 use std::alloc::AllocError;
 use sym_core::Refusal;
 
-/// Appends the text for a word that begins within a run, or the word where there is none, and answers whether there is
-/// one. Each byte is in at most three tries: the word without its last bytes that aren't ASCII, the word, and the
-/// longest parts of it that are ASCII.
+/// Appends the text for a word that begins within a run, or the word itself if it has no text, and answers whether it has one. Each byte is
+/// in at most three tries: the word without its last bytes that aren't ASCII, the word, and the longest parts of it that are ASCII.
 pub(crate) fn push_tries<D: Demangler>(
     demangler: &D,
     lists: &mut D::Lists,
@@ -87,7 +86,7 @@ fn append_whole<D: Demangler>(
     Ok(part_read)
 }
 
-/// Where the dots and the bytes that aren't ASCII at a word's end begin.
+/// Where the dots and the non-ASCII bytes at a word's end begin.
 fn trimmed_end(word: &[u8]) -> usize
     ensures within { result ≤ length word.now }
     ensures trimmed { take result word.now ≡ trimmed word.now }
@@ -109,7 +108,7 @@ fn has_wide(word: &[u8]) -> bool
     word.iter().any(|byte| *byte >= 0x80)
 }
 
-/// Appends the text of a word's symbol, if it names one that has a text, and answers whether it does.
+/// Appends the text of a word's symbol, if the word names a symbol that has a text, and answers whether it does.
 fn append_text<D: Demangler>(
     demangler: &D,
     lists: &mut D::Lists,
@@ -126,7 +125,8 @@ fn append_text<D: Demangler>(
     Ok(read)
 }
 
-/// Appends the text of the symbol of a word of a kind, if it has one, and answers whether it does.
+/// Appends the text of a word's symbol, given the word's kind, if the symbol has a text, and
+/// answers whether it has one.
 #[inline(always)]
 fn append_symbol<D: Demangler>(
     demangler: &D,
@@ -215,7 +215,7 @@ fn push_part<D: Demangler>(
     })
 }
 
-/// Appends a run, replaced where its word has a text, and says whether it has one.
+/// Appends a run, replaced where its word has a text, and says whether the word has one.
 fn push_replaced<D: Demangler>(
     demangler: &D,
     lists: &mut D::Lists,

@@ -139,16 +139,16 @@ pub struct Ended {
     pub left: usize,
 }
 
-/// What a filter holds of a text, and where it is in it.
+/// What a filter holds of a text, and where the filter is in the text.
 #[derive(Drop)]
 pub struct Words {
     letters: Letters,
     // the run from its word on, up to its last byte that is no dot; no bytes where no word has begun or the run is
     // passed on
     held: Vec<u8>,
-    // the dots after it
+    // the dots after the held bytes
     dots: u128,
-    // the place of the first byte that is held, or of the next
+    // the place of the first byte that is held, or of the next byte if none is held
     place: Place,
     // the run's word is too long to name a symbol: the run is passed on to its end
     past: bool,
@@ -192,7 +192,7 @@ impl Words {
         self.tally
     }
 
-    /// The letters of its words.
+    /// The letters of the filter's words.
     pub fn letters(&self) -> Letters
         ensures { result ≡ self.now.letters }
     {
@@ -206,8 +206,8 @@ impl Words {
         }
     }
 
-    /// Takes bytes from the front of a text, appends what they decide of the filtered text, and answers what follows it.
-    // in a program with two reports it was a call of its own, and took a tenth of the filter's instructions over a log
+    /// Takes bytes from the front of a text, appends the part of the filtered text that they decide, and answers what follows that part.
+    // in a program with two reports this function was a call of its own, and took a tenth of the filter's instructions over a log
     #[inline(always)]
     pub fn take<D: Demangler>(
         &mut self,
@@ -287,7 +287,7 @@ impl Words {
     }
 
     /// Holds a part of a run, or passes the run on where it is too long for a word that names a symbol.
-    // As a call of its own this and `put_after` took 1 % of the filter's instructions over a list of symbols.
+    // As calls of their own, this function and `put_after` took 1 % of the filter's instructions over a list of symbols.
     #[inline(always)]
     fn hold(&mut self, part: &[u8], out: &mut Vec<u8>) -> Result<Taken, AllocError>
         requires in_run { list_all (is_byte_of self.old.letters) part.now ≡ true }
@@ -340,8 +340,8 @@ impl Words {
         })
     }
 
-    /// Ends the run that is held: appends the text for its word, or the word, and counts it where it names a symbol.
-    /// Answers how many dots come after it.
+    /// Ends the run that is held: appends the text for its word, or the word itself, and counts the word if it names a symbol. Answers how
+    /// many dots come after the word.
     #[inline(always)]
     pub fn end_word<D: Demangler>(
         &mut self,
@@ -406,7 +406,7 @@ impl Words {
     }
 
     /// Ends the run that is held where words begin within runs.
-    // out of line, so that all others pay nothing for it
+    // out of line, so that filters whose words don't begin within runs pay nothing for it
     #[inline(never)]
     fn end_within<D: Demangler>(
         &mut self,
@@ -457,7 +457,7 @@ fn push_front(out: &mut Vec<u8>, front: &[u8]) -> Result<(), AllocError>
     out.extend_from_slice(front)
 }
 
-/// How many bytes of a word are left: all of them, unless it has a text.
+/// How many bytes of a word are left: all of them, unless the word has a text.
 #[inline(always)]
 fn left_bytes(word: &[u8], has_text: bool) -> usize
     ensures { result ≡ (if has_text then 0 else length word.now) }
@@ -465,7 +465,7 @@ fn left_bytes(word: &[u8], has_text: bool) -> usize
     if has_text { 0 } else { word.len() }
 }
 
-/// Appends the text of a word's symbol, or the word where it has none, and answers whether it has one.
+/// Appends the text of a word's symbol, or the word if the symbol has no text, and answers whether the symbol has one.
 fn push_text<D: Demangler>(
     demangler: &D,
     lists: &mut D::Lists,

@@ -1,4 +1,4 @@
--- What is answered for a symbol, by the laws of its answers.
+-- What is answered for a symbol, according to the laws of its answers.
 use Rattle.sym_languages.proofs.Basics.{◌≡◌, ◌≢◌, ◌⊎◌, inl, inr, ℕ, List, ◌++◌, length, Result, Ok, Err, sym, ap, ◌∙◌, subst, OnOk, OnErr, IfErr, ◌+◌, ◌*◌, ◌≤◌, Refusal, Memory, TooLong, Detail, has_arguments, AreBytes, Mangled, IsAnswer, IsReading, answer, is_answer, reading_answered, v0_mangled, IsAppended, IsDemangled, with_front, Readings, AreCounts, language_answer_by, Rust}
 use Rattle.sym_core.specs.declared.counts.Counts.{Counts}
 use Rattle.sym_shape.specs.declared.rule.Row.{Row}

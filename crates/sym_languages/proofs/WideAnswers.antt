@@ -27,7 +27,7 @@ pub spelled_answer : (front old new s spelling out : List ℕ) (t : Term) (most 
 spelled_answer front old new s spelling out t most bytes is same some put pushed =
     pressed_given front old new out spelling (wide_pressed_answer s) (reading_kept s (Ok t) bytes is ∙ ap kept_or_refused (ap (λ m. kept m t) (sym same) ∙ some)) put pushed
 
--- the spelling that is kept, by the one that was found
+-- the spelling that is kept, given the one that was found
 pub kept_none : (given : Option (List ℕ)) (found : Option (Vec ℕ Global)) → IsKept given found → found ≡ None → given ≡ None
 kept_none given found is none = subst (λ (o : Option (Vec ℕ Global)). IsKept given o) none is
 

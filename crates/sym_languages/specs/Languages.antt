@@ -44,7 +44,8 @@ answer_of limit detail kind symbol = language_answer limit detail kind.lang symb
 abbrev pub wide_answer_of : ℕ → Detail → Kind → List ℕ → Result (List ℕ) Refusal
 wide_answer_of limit detail kind symbol = language_answer_by wide_mangled limit detail kind.lang symbol
 
--- what is answered with this grammar of C++. A legacy Rust name is also a C++ symbol: it is answered as that, or as the path that it denotes.
+-- what is answered with this grammar of C++. A legacy Rust name is also a C++ symbol: it is answered as a C++ symbol, or as the path that
+-- it denotes.
 abbrev pub answers_by : {W : Type 0} → Mangled W → (legacy : Bool) → (limit : ℕ) → Detail → Answering
 answers_by cpp legacy limit detail =
     if legacy then (λ kind symbol. legacy_answer limit symbol (language_answer_by cpp limit detail kind.lang symbol))
@@ -111,7 +112,7 @@ v0_readings = record {
 }
 
 -- The counts of a symbol that is read and denotes a tree: the rows, the steps and the nodes of its one shape. There is at least one step
--- for each row, and there are no more of each than the symbol's bytes allow.
+-- for each row, and there are no more rows, steps and nodes than the symbol's bytes allow.
 pub record AreCounts {W R : Type 0} (readings : Readings W R) (symbol : List ℕ) (counts : Counts) : Type 0 where
   pub shape : List Row
   pub are_rows : AreRowsOf readings.mangled.table symbol shape

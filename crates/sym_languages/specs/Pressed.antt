@@ -8,18 +8,19 @@ use Rattle.sym_shape.specs.Decided.{AreBytes}
 use Rattle.sym_shape.proofs.Deciding.{outcome, outcome_shaped, outcome_malformed}
 use Rattle.sym_demangle.specs.Mangled.{Mangled, IsReading, misshapen, well_shaped}
 
--- the answer by what a symbol is read as: the pressed spelling of its tree, or the reason why the symbol isn't read
+-- the answer that follows from what a symbol is read as: the pressed spelling of its tree, or the reason why the symbol
+-- isn't read
 abbrev pub pressed_if_read : {W : Type 0} → (pressed : W → List ℕ) → Result W Refusal → Result (List ℕ) Refusal
 pressed_if_read pressed (Ok whole) = Ok (pressed whole)
 pressed_if_read pressed (Err refusal) = Err refusal
 
--- The answer to a symbol of a mangling whose trees have these pressed spellings: the answer by what its shape denotes, or the refusal at its
--- first bad byte. There is no limit. A list of numbers that aren't all bytes is refused at once.
+-- The answer to a symbol of a mangling whose trees have these pressed spellings: the answer for what its shape denotes, or the refusal at
+-- its first bad byte. There is no limit. A list of numbers that aren't all bytes is refused at once.
 unfoldable pub pressed_answer : {W : Type 0} → Mangled W → (pressed : W → List ℕ) → List ℕ → Result (List ℕ) Refusal
 pressed_answer m pressed s =
     outcome m.table m.lawful (λ shape. pressed_if_read pressed (m.unfolded shape)) (λ at. Err (Malformed at)) (Err (Malformed 0)) s
 
--- what a symbol is read as decides its answer
+-- the tree or the refusal that a symbol is read as decides the symbol's answer
 abbrev pub ReadingIsPressed : {W : Type 0} → Mangled W → (pressed : W → List ℕ) → Type 0
 ReadingIsPressed {W = W} m pressed =
     (s : List ℕ) (result : Result W Refusal) → AreBytes s → IsReading m s result → pressed_answer m pressed s ≡ pressed_if_read pressed result

@@ -28,13 +28,14 @@ abbrev pub kept_or_refused : Option (List ℕ) → Result (List ℕ) Refusal
 kept_or_refused (Some spelling) = Ok spelling
 kept_or_refused None = Err TooLong
 
--- the answer by what a symbol is read as: the pressed spelling of its tree, if that has at most `most` bytes and the wide grammar reads it as
--- the tree (`kept`); or the reason why the symbol isn't read
+-- the answer that follows from what a symbol is read as: the pressed spelling of its tree, if that has at most `most` bytes and the wide
+-- grammar reads it as the tree (`kept`); or the reason why the symbol isn't read
 abbrev pub kept_if_read : (most : ℕ) → Result Term Refusal → Result (List ℕ) Refusal
 kept_if_read most (Ok tree) = kept_or_refused (kept most tree)
 kept_if_read most (Err refusal) = Err refusal
 
--- The answer to a C++ symbol by what its shape denotes, or the refusal at its first bad byte. A list of numbers that aren't all bytes is refused at once.
+-- The answer to a C++ symbol: the answer for what its shape denotes, or the refusal at its first bad byte. A list of numbers that aren't
+-- all bytes is refused at once.
 unfoldable pub wide_pressed_answer : List ℕ → Result (List ℕ) Refusal
 wide_pressed_answer s =
     outcome wide_mangled.table wide_mangled.lawful (λ shape. kept_if_read (most_pressed (length s)) (wide_mangled.unfolded shape))
@@ -51,7 +52,7 @@ wide_pressed_of kind symbol = with_front (underscore_of kind.skip) (wide_pressed
 
 -- ## What holds of these answers
 
--- what a symbol is read as decides its answer
+-- the tree or the refusal that a symbol is read as decides the symbol's answer
 abbrev pub ReadingIsKept : Type 0
 ReadingIsKept =
     (s : List ℕ) (result : Result Term Refusal) → AreBytes s → IsReading wide_mangled s result → wide_pressed_answer s ≡ kept_if_read (most_pressed (length s)) result

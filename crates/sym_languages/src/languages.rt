@@ -22,8 +22,7 @@ impl Cpp for Abi {}
 
 impl Cpp for Wide {}
 
-/// Both manglings, at a limit on the cost of a text and a detail, with the grammar that C++ symbols are read by: `Abi` or
-/// `Wide`.
+/// Both manglings, at a limit on the cost of a text and a detail, with the grammar for reading C++ symbols: `Abi` or `Wide`.
 #[derive(Clone, Copy, Drop)]
 pub struct Languages<C: Cpp> {
     pub limit: u32,
@@ -113,7 +112,7 @@ pub fn with_parameters(detail: Detail) -> Detail
     }
 }
 
-/// Appends the text of a symbol of a mangling, where it has one.
+/// Appends the text of a symbol of a mangling, if the symbol has one.
 fn append_in<M: Mangling>(
     workspace: &mut Workspace<M>,
     symbol: &[u8],
@@ -127,7 +126,7 @@ fn append_in<M: Mangling>(
     workspace.demangle_into(symbol, limit, detail, out)
 }
 
-/// Appends the text of a symbol of a mangling, where it has one.
+/// Appends the text of a symbol of a mangling, if the symbol has one.
 fn demangle_in<M: Counted>(
     workspace: &mut Workspace<M>,
     symbol: &[u8],

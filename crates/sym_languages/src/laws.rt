@@ -7,7 +7,8 @@ ghost use Rattle.rust_press.specs.Pressing as rust_spelling;
 ghost use Rattle.rust_press.specs.Short as rust_short;
 ghost use Rattle.sym_languages.specs.Pressed.{AnswersAreShort, ReadingIsPressed};
 
-/// A law of the definitions: what a symbol is read as decides what pressing it answers, which is the pressed spelling of its tree, or the refusal.
+/// A law of the definitions: what pressing a symbol answers, the pressed spelling of its tree or a refusal, depends only on what the symbol
+/// is read as.
 pub fn reading_is_pressed()
     ensures cpp { ReadingIsPressed cpp_mangled cpp_spelling.pressed }
     ensures rust { ReadingIsPressed v0_mangled rust_spelling.pressed }

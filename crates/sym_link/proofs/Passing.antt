@@ -119,7 +119,7 @@ passing_done view s nodes frame lower parts to whole p enough =
 
 -- ## One after the other
 
--- how many nodes a rule may still add, once its next part is there
+-- how many nodes a rule may still add, once its next part is pushed
 pub owed_pushed : {N P K V S C : Type 0} (view : View N P K V S C) (old new : N) (frame : Frame K) (parts middle : List P) (part : P) (x : ℕ) → frame.base ≤ length middle
     → Adds view old new x (owed_next view frame middle) → Adds view old new x (owed_behind view frame (middle ++ part ∷ []))
 owed_pushed view old new frame parts middle part x within adds =
@@ -165,7 +165,7 @@ module _ {N P K V S C : Type 0} (view : View N P K V S C) (s : List ℕ) (laws :
   one_each : Stands view.table s 1 rule (length known) from left
   one_each = subst (λ n. Stands view.table s n rule (length known) from left) laws.one is.stands
 
-  -- before the next part that has a row, with n parts after it
+  -- no part is passed yet before the next part that has a row, with n parts after that one
   pub row_first : (held after to : ℕ) → IsAhead view.table frame.rule held after to → held ≡ length parts - frame.base → (next : Tree) (rest : Forest) → skipped left ≡ grown next rest
       → after ≡ tree_count rest → Passing view s old frame (take frame.base parts) parts to (passed view.reading rule known from left state)
   row_first held after to ahead held_is next rest left_is told =
@@ -177,7 +177,7 @@ module _ {N P K V S C : Type 0} (view : View N P K V S C) (s : List ℕ) (laws :
             (sym one_each.counted ∙ sym known_is) left_is told,
       ))
 
-  -- before the end of the rule
+  -- no part is passed yet before the end of the rule
   pub close_first : (count : ℕ) → IsCount view.table frame.rule count → row_count_all left ≡ 0
       → Passing view s old frame (take frame.base parts) parts count (passed view.reading rule known from left state)
   close_first count is_count none =

@@ -1,4 +1,4 @@
--- Calls one after another keep the room that there is; if the last one lacks room, so did the first.
+-- Calls one after another keep the room of the lists; if the last call lacks room, so did the first.
 use Rattle.sym_link.proofs.Basics.{inl, inr, List, [], ◌∷◌, arith, Result, Err, Refusal, Listed, KeepRoom, LackRoom, OnlyForRoom}
 
 pub room_same : (lists : List Listed) → KeepRoom lists lists

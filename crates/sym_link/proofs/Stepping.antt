@@ -101,7 +101,7 @@ pub root_due : (n : ℕ) (rule : Rule) (taken : List ℕ) (inner : Forest) → l
     → (if closes_at_once inner then 0 else (link_steps_all inner + 1)) + 0 ≡ n
 root_due n rule taken inner is = omega (arith, is, chosen (closes_at_once inner) (link_steps_all inner))
 
--- the step in which a rule begins ends
+-- a step in which a rule begins comes to its end
 pub push_due : {V S C : Type 0} (top : Frame V S C) (frames : List (Frame V S C)) (n most : ℕ) → IsDue (starting n most) (top ∷ frames) → closes_at_once top.left ≡ false → IsDue (waiting n) (top ∷ frames)
 push_due top frames n most is later = omega (arith, is, later_is (closes_at_once top.left) (link_steps_all top.left + 1) later)
 

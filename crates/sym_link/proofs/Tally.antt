@@ -271,7 +271,7 @@ module _ {V S C : Type 0} (reading : Reading V S C) (number : ℕ → ℕ) where
       ∙ bind_same next (λ x. taken_in counting t place (next_with n x)) (λ x. taken_in reading t place x >>= with_nodes n) (taken_tallied reading (closing_makes number) t place n)
       ∙ sym (bind_assoc next (taken_in reading t place) (with_nodes n))
 
-  -- the count is that of the nodes that the rules make
+  -- as many nodes are counted as the rules make
   mutual
     pub tree_counts : (context : C) (place : ℕ) (tree : Tree) (now : Tally S)
         → IfOk (unfold_tree counting context place tree now) (λ whole. whole.state.nodes ≡ now.nodes + nodes_in number tree)

@@ -26,8 +26,8 @@ pub record IsShape (g : Table) (s : List ℕ) (rows : List Row) (tree : Tree) : 
 abbrev pub meaning_of : {N P K V S C : Type 0} → View N P K V S C → Tree → Result (Found (List V) S) Refusal
 meaning_of view tree = unfold_tree view.reading view.around 0 tree view.first
 
--- The last frame of code is that of the innermost rule, and the parts after its base denote the known values. The part that has
--- begun last still owes this many values.
+-- The last frame of code is that of the innermost rule, and the parts after its base denote the known values. The part that
+-- began last still owes this many values.
 pub record IsTop {N P K V S C : Type 0} (view : View N P K V S C) (s : List ℕ) (nodes : N) (top : machine.Frame V S C) (known : List V)
     (awaited row : ℕ) (codes : List (Frame K)) (parts : List P) : Type 0 where
   pub lower : List (Frame K)
@@ -68,7 +68,7 @@ IsEarly reached [] known = Unit {0}
 IsEarly reached (top ∷ frames) known = length known ≡ 0 → reached ≤ top.rule.place
 
 -- A rule has begun in a step that ends with at most n nodes. If the rule can close in that step, there are at most n nodes
--- after it, whether it closes over its parts or is refused before.
+-- after the step, whether the rule closes over its parts or is refused before.
 pub record BeginsWithin {N P K V S C : Type 0} (view : View N P K V S C) (nodes : N) (top : machine.Frame V S C) (known : List V) (most : ℕ) : Type 0 where
   pub none_known : known ≡ []
   pub size : view.size nodes ≤ most
@@ -115,8 +115,8 @@ abbrev pub FollowsOn : {N P K V S C : Type 0} → View N P K V S C → (s : List
 FollowsOn view s shape whole steps nodes codes parts (Ok next) = Follows view s shape whole (waiting steps) nodes next codes parts
 FollowsOn view s shape whole steps nodes codes parts (Err e) = Fails e whole
 
--- After the only token of a rule, or in a rule without a token, the rule may close with n steps left after it; or it has other
--- rows, and waits for them with n steps left.
+-- After the only token of a rule, or in a rule without a token, the rule may close and leave n steps; or it has other rows,
+-- and waits for them with n steps left.
 abbrev pub FollowsAlone : {N P K V S C : Type 0} → View N P K V S C → (s : List ℕ) → (shape : List Row) → (whole : Result (Found (List V) S) Refusal) → (left : ℕ)
     → (nodes : N) → (lower : List (Frame K)) → (frame : Frame K) → List P → Result ℕ Refusal → Type 0
 FollowsAlone view s shape whole left nodes lower frame parts (Ok behind) =
@@ -215,9 +215,8 @@ Moves view s shape tree taken nodes codes parts (Ok (Some next)) = (left : ℕ) 
 Moves view s shape tree taken nodes codes parts (Ok None) = IsDone view s shape (meaning_of view tree) nodes parts × (taken ≡ link_steps tree)
 Moves view s shape tree taken nodes codes parts (Err e) = Fails e (meaning_of view tree)
 
--- A move takes at most two rows. A move that takes one row leaves at most one more open rule, one that takes two leaves none
--- more, and one that takes none closes a rule. So, with the open rules, the moves so far are at most two for each row, and at
--- least one for two rows.
+-- A move takes at most two rows. If it takes one row, it leaves at most one more open rule; if two, no more; and if none, it
+-- closes a rule. So, counting the open rules, there are at most two moves so far for each row, and at least one for two rows.
 abbrev pub CountsMove : (rows next before after : ℕ) → Result (Option ℕ) Refusal → Type 0
 CountsMove rows next before after (Ok (Some behind)) = (2 * next + after + 1 ≤ 2 * behind + before) × (behind ≤ next + 2)
 CountsMove rows next before after (Ok None) = Unit {0}

@@ -38,12 +38,12 @@ pub record View (N P K V S C : Type 0) : Type 1 where
   -- may have
   pub size : N → ℕ
   pub owes : Owes
-  -- how many a rule may add after these parts, if no other part with a row follows or the rule is refused
+  -- how many nodes a rule may add after these parts, if no other part with a row follows or the rule is refused
   pub closes : (number : ℕ) → List P → ℕ
   pub most : (bytes : ℕ) → ℕ
   -- this many bytes of the symbol pay for what the language has written beside the nodes
   pub IsPaid : N → (bytes : ℕ) → Type 0
-  -- its lists, and which own bytes of a token, in the rule with a number, take memory besides
+  -- the lists of the language, and which own bytes of a token take memory besides, in the rule with a number
   pub lists : N → List Listed
   pub TakesMemory : (number : ℕ) → (own : List ℕ) → Type 0
 
@@ -59,8 +59,9 @@ owed_next view frame parts = view.owes frame.rule (length parts - frame.base + 1
 abbrev pub values_at_once : (rowless : ℕ) → Forest → ℕ
 values_at_once rowless parts = if no_part_has_row parts then 0 else (values_in rowless (passed_by parts) + 1)
 
--- A rule with these parts, which closes in the step that begins it, and the rule around it add at most two nodes in that step,
--- whether the rule closes or is refused before. `before` and `behind` are what the rule around it may add before and after.
+-- A rule with these parts closes in the step that begins it. Together with the rule around it, it adds at most two nodes in
+-- that step, whether it closes or is refused before. `before` and `behind` are what the rule around it may add before and
+-- after.
 pub record AddTwo {N P K V S C : Type 0} (view : View N P K V S C) (before behind number : ℕ) (parts : Forest) : Type 0 where
   pub closed : (own : List P) → length own ≡ values_at_once (length view.reading.rowless) parts
       → before + view.owes number 0 + view.closes number own ≤ behind + view.owes number (length own) + 2
@@ -71,7 +72,7 @@ pub record IsLinking {N P K V S C : Type 0} (view : View N P K V S C) : Type 0 w
   pub sound : IsSound view.table
   -- a symbol has a row
   pub starts : view.table.may_be_empty 0 ≡ false
-  -- parts and kept states denote what they denoted
+  -- parts and kept states denote what they denoted before
   pub part_stays : (old new : N) (part : P) (value : V) → view.Grows old new → view.IsPart old part value → view.IsPart new part value
   pub kept_stays : (old new : N) (kept : K) (rule : Open S C) → view.Grows old new → view.IsKept old kept rule → view.IsKept new kept rule
   -- more bytes pay for what fewer bytes pay for
@@ -84,7 +85,7 @@ pub record IsLinking {N P K V S C : Type 0} (view : View N P K V S C) : Type 0 w
   -- a rule adds at most two nodes, and when it closes, no more than it may still add
   pub two : (number held : ℕ) → view.owes number held ≤ 2
   pub closing : (number : ℕ) (own : List P) → view.closes number own ≤ view.owes number (length own)
-  -- a rule that closes in the step that begins it and the rule around it together add at most two nodes
+  -- a rule that closes in the step that begins it adds, together with the rule around it, at most two nodes
   pub two_at_once : (s : List ℕ) (around : Open S C) (held from : ℕ) (left : Forest) (rule : Rule) (taken : List ℕ) (parts rest : Forest)
       → Stands view.table s (length view.reading.rowless) around held from left → skipped left ≡ grown (branch rule taken parts) rest → closes_at_once parts ≡ true
       → AddTwo view (view.owes around.rule.number held) (view.owes around.rule.number (held + values_in (length view.reading.rowless) (passed_by left) + 1)) rule.number parts
@@ -200,14 +201,15 @@ TakesToken {V = V} {S = S} {C = C} view s old new frame parts new_parts row resu
     → Takes view new (take frame.base parts) new_parts result
     (next_of view.reading around known from left state >>= taken_in view.reading t (skipped_from from left))
 
--- The frame's rule closes over its parts as the reading says: one part, which denotes what it means, takes their place.
+-- The frame's rule closes over its parts as the reading says: one part, which denotes what the rule means, takes their
+-- place.
 abbrev pub ClosesRule : {N P K V S C : Type 0} → View N P K V S C → (s : List ℕ) → (old new : N) → Frame K → (parts new_parts : List P) → Result (Unit {0}) Refusal → Type 0
 ClosesRule {V = V} {S = S} {C = C} view s old new frame parts new_parts result =
     (rule : Open S C) (known : List V) (from : ℕ) (left : Forest) (state : S)
     → IsInside view s old frame (drop frame.base parts) rule known from left state → row_count_all left ≡ 0
     → Puts view new (take frame.base parts) new_parts result (ended view.reading rule known from left state)
 
--- The nodes are the old ones and new ones, at most as many as the allowance shrinks by.
+-- The nodes are the old ones and some new ones; the new ones are at most as many as the allowance shrinks by.
 abbrev pub Adds : {N P K V S C : Type 0} → View N P K V S C → (old new : N) → (before after : ℕ) → Type 0
 Adds view old new before after = view.Grows old new × (view.size new + after ≤ view.size old + before)
 
@@ -219,7 +221,7 @@ AddsFew view old new frame parts = view.size new ≤ view.size old + view.closes
 abbrev pub Pays : {N P K V S C : Type 0} → View N P K V S C → (old new : N) → (at to : ℕ) → Type 0
 Pays view old new at to = view.IsPaid old at → view.IsPaid new to
 
--- the lists to which a call of the language adds: that of the parts, and its own
+-- the lists to which a call of the language adds: that of the parts, and the language's own
 abbrev pub lists_with : {N P K V S C : Type 0} → View N P K V S C → N → Vec P Global → List Listed
 lists_with view nodes parts = one_by_one parts ∷ view.lists nodes
 

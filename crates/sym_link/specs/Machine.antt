@@ -46,7 +46,8 @@ entered reading context place (fixed byte) frames known state = Ok (machine fram
 entered reading context place (token t) frames known state =
     reading.token place t state >>= λ one. Ok (machine frames (known ++ one.value ∷ []) one.state)
 
--- the remaining parts of a rule after the next ones that have no row, their place, and what is known and the state there
+-- a rule past its next parts that have no row: the remaining parts, their place, and the known values and the state at
+-- that place
 pub record Passed (V S : Type 0) : Type 0 where
   pub known : List V
   pub from : ℕ

@@ -4,7 +4,7 @@ use Rattle.sym_shape.specs.Table.{Table, symbols_of}
 use Rattle.sym_shape.specs.Tree.{Forest, branch, empty, token, fixed, nothing, grown, spell_all, TakesRule, AreTrees}
 use Rattle.sym_link.specs.Reading.{Open}
 
--- the parts after the first ones, which have no row
+-- the parts after the first parts that have no row
 abbrev pub skipped : Forest → Forest
 skipped (grown empty rest) = skipped rest
 skipped (grown (fixed byte) rest) = skipped rest
@@ -35,8 +35,8 @@ values_in rowless (grown (fixed byte) rest) = rowless + values_in rowless rest
 values_in rowless (grown (token t) rest) = 1 + values_in rowless rest
 values_in rowless (grown (branch rule taken parts) rest) = 1 + values_in rowless rest
 
--- A rule of the grammar is in a symbol. Of the parts that it has passed, this many values are known; `left` are its other parts,
--- which begin at a place.
+-- A rule of the grammar is in a symbol. This many values of its passed parts are known; `left` are its other parts, which begin
+-- at a place.
 pub record Stands {S C : Type 0} (g : Table) (s : List ℕ) (rowless : ℕ) (rule : Open S C) (held from : ℕ) (left : Forest) : Type 0 where
   pub kind : ℕ
   pub is_kind : kind < g.kinds

@@ -1,5 +1,5 @@
--- A test of a sheet of rules that computes: each tree of the grammar adds at most two nodes for each of its bytes. A kind has a
--- slack: a tree of it adds at most two nodes a byte, and its slack less the base.
+-- A computable test of a sheet of rules: each tree of the grammar adds at most two nodes for each of its bytes. A kind has a
+-- slack: a tree of that kind adds at most two nodes for each byte, plus the kind's slack less the base.
 use Rattle.std.specs.Prelude.{ℕ, ◌+◌, List, [], ◌∷◌, get_or, Bool, true, not, ◌&&◌, ◌||◌, nat_le, cond}
 use Rattle.sym_core.specs.declared.NameClass.{NameClass}
 use Rattle.sym_core.specs.declared.NameClass.TheVariants.{Cpp, Rust}

@@ -4,7 +4,7 @@ use Rattle.std.specs.Global.{Global}
 use Rattle.sym_core.specs.declared.refusal.Refusal.{Refusal}
 use Rattle.sym_core.specs.declared.refusal.Refusal.TheVariants.{Memory}
 
--- a list: how many items it has room for without taking memory, how many it holds, and how many are put on it at once, at most
+-- a list: how many items it has room for without taking memory, how many it holds, and at most how many are put on it at once
 pub record Listed : Type 0 where
   pub room : ℕ
   pub held : ℕ

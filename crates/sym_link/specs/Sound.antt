@@ -1,5 +1,5 @@
--- What linking requires of a table. The table that symbols are read by keeps more laws (`IsLawful`), and may have fewer trees
--- than the table that they are linked by.
+-- What linking requires of a table. The table with which symbols are read keeps more laws (`IsLawful`), and may have fewer
+-- trees than the table with which they are linked.
 use Rattle.sym_shape.specs.declared.rule.TheConstants.{TOKEN}
 use Rattle.std.specs.Prelude.{◌≡◌, ℕ, ◌<◌, List, [], ◌++◌, Some}
 use Rattle.sym_shape.specs.declared.rule.Rule.{Rule}

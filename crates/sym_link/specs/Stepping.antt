@@ -19,7 +19,8 @@ closes_at_once (grown (fixed byte) rest) = closes_at_once rest
 closes_at_once (grown (token t) rest) = no_part_has_row rest
 closes_at_once (grown (branch rule taken parts) rest) = false
 
--- how many steps the driver takes for a tree: it begins each rule and closes it, at once where it can, and takes each token
+-- how many steps the driver takes for a tree: it begins and closes each rule, in the same step if possible, and takes each
+-- token
 abbrev mutual
   pub link_steps : Tree → ℕ
   link_steps (branch rule taken parts) = if closes_at_once parts then 1 else (2 + link_steps_all parts)
@@ -31,8 +32,7 @@ abbrev mutual
   link_steps_all nothing = 0
   link_steps_all (grown tree rest) = link_steps tree + link_steps_all rest
 
--- the steps that are left: between two steps, or within the one in which the innermost rule begins, which ends with at most n
--- nodes
+-- the steps that are left: between two steps, or within the step that begins the innermost rule and ends with at most n nodes
 pub data Due : Type 0 where
   waiting : ℕ → Due
   starting : (steps most : ℕ) → Due

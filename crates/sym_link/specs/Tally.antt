@@ -13,7 +13,7 @@ pub record Tally (S : Type 0) : Type 0 where
 abbrev pub tally : {S : Type 0} → S → ℕ → Tally S
 tally state nodes = record { state = state; nodes = nodes }
 
--- How many nodes a rule whose parts so far have these values makes: before its next part, and where it closes.
+-- How many nodes a rule makes before its next part, and where it closes, if its parts so far have these values.
 pub record Makes (V S C : Type 0) : Type 0 where
   pub before : Open S C → (known : List V) → S → ℕ
   pub at_end : Open S C → (known : List V) → S → ℕ

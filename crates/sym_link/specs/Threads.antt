@@ -1,4 +1,4 @@
--- A language in which each part has one value, also one with no row, and something is done before each part.
+-- A language in which each part, even one with no row, has one value, and in which something is done before each part.
 use Rattle.std.specs.Prelude.{◌≡◌, ℕ, ◌+◌, ◌<◌, ◌≤◌, List, ◌++◌, length, take, drop, Result, Ok, Err}
 use Rattle.sym_core.specs.declared.refusal.Refusal.{Refusal}
 use Rattle.sym_shape.specs.declared.rule.Row.{Row}
@@ -20,7 +20,7 @@ skips (grown empty rest) = 1 + skips rest
 skips (grown (fixed byte) rest) = 1 + skips rest
 skips left = 0
 
--- A rule of the grammar is at its place in the symbol, which holds the byte that it takes.
+-- A rule of the grammar is at its place in the symbol, and the byte that the rule takes, if any, is at that place.
 pub record IsThere {S C : Type 0} (g : Table) (s : List ℕ) (rule : Open S C) : Type 0 where
   pub kind : ℕ
   pub is_kind : kind < g.kinds
@@ -53,8 +53,8 @@ Goes {P = P} {V = V} {S = S} {C = C} view IsContext nodes lower parts (Ok contex
     × (own : List P) × (parts ≡ lower ++ own) × AreAll (view.IsPart nodes) own next.values
 Goes view IsContext nodes lower parts (Err e) read = Fails e read
 
--- The nodes added before the next part of the frame's rule are at most the difference of what the rule may still add before and
--- after.
+-- The number of nodes added before the next part of the frame's rule is at most the difference between what the rule could add
+-- before and what it may still add afterwards.
 abbrev pub AddsBefore : {N P K V S C A : Type 0} → View N P K V S C → (old new : N) → Frame K → (parts own : List P) → Result A Refusal → Type 0
 AddsBefore view old new frame parts own (Ok done) = view.size new + view.closes frame.rule own ≤ view.size old + view.closes frame.rule (drop frame.base parts)
 AddsBefore view old new frame parts own (Err e) = AddsFew view old new frame parts
@@ -129,7 +129,8 @@ IsTaken {S = S} view s old new row result =
 abbrev pub IsCount : Table → (number count : ℕ) → Type 0
 IsCount g number count = (kind : ℕ) (rule : Rule) (taken : List ℕ) → kind < g.kinds → TakesRule g kind rule taken → rule.number ≡ number → length (symbols_of rule) ≡ count
 
--- once `held` parts of that rule are passed and `after` parts follow its next one with a row, `ahead` parts precede that one
+-- once `held` parts of the rule with this number are passed, and `after` parts follow the rule's next part with a row,
+-- `ahead` parts precede that part
 abbrev pub IsAhead : Table → (number held after ahead : ℕ) → Type 0
 IsAhead g number held after ahead =
     (kind : ℕ) (rule : Rule) (taken : List ℕ) → kind < g.kinds → TakesRule g kind rule taken → rule.number ≡ number

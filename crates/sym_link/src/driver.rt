@@ -61,7 +61,7 @@ fn leave<L: Linking>(
     language.close(symbol, frame, parts)
 }
 
-/// Takes the token of a rule that has begun, if a token is its only row. It answers the number of the next row.
+/// Takes the token of a rule that has begun, if a token is its only row. Answers the number of the next row.
 #[inline(always)]
 fn take_alone<L: Linking>(
     language: &mut L,
@@ -91,10 +91,10 @@ fn take_alone<L: Linking>(
 }
 
 /// Pushes the new rule's frame. If no part of the rule has a row, the rule closes at once; if only
-/// a token has one, the rule takes the token and closes. It answers the number of the next row.
-// It closes the rule in one place: `#[inline(always)]` holds only up to a size that counts what is
-// inlined in turn. With two places, and four more productions in Rust's loop, this function stayed
-// a call, and the filter took 19 % more instructions.
+/// a token has one, the rule takes the token and closes. Answers the number of the next row.
+// The function closes the rule in one place: `#[inline(always)]` holds only up to a size that
+// counts what is inlined in turn. With two places, and four more productions in Rust's loop, this
+// function stayed a call, and the filter took 19 % more instructions.
 #[inline(always)]
 fn close_lone_token<L: Linking>(
     language: &mut L,
@@ -125,7 +125,7 @@ fn close_lone_token<L: Linking>(
     Ok(behind)
 }
 
-/// Takes the row of a token or a rule, which is in the innermost rule. It answers the number of the next row.
+/// Takes the row of a token or a rule, which is in the innermost rule. Answers the number of the next row.
 fn take<L: Linking>(
     language: &mut L,
     symbol: &[u8],
@@ -163,7 +163,7 @@ fn take<L: Linking>(
     close_lone_token(language, symbol, rows, next + 1, frames, parts, opened)
 }
 
-/// Takes the first row. It answers the number of the next row.
+/// Takes the first row. Answers the number of the next row.
 fn begin<L: Linking>(
     language: &mut L,
     symbol: &[u8],
@@ -192,8 +192,9 @@ fn begin<L: Linking>(
     close_lone_token(language, symbol, rows, 1, frames, parts, opened)
 }
 
-/// Takes the next row, with the token that is all its rule has, or closes the innermost rule after
-/// its last row. It answers the number of the next row, or none where nothing is left to do.
+/// Takes the next row, and the token after it if the row's rule has no other row; or closes the
+/// innermost rule after its last row. Answers the number of the next row, or none where nothing is
+/// left to do.
 fn advance<L: Linking>(
     language: &mut L,
     symbol: &[u8],
@@ -293,12 +294,12 @@ impl<L: Linking> Driver<L> {
         self.refused = Some(refusal);
     }
 
-    /// Takes the next row, with the token that is all its rule has, or closes the innermost rule. That is counted. Answers
-    /// whether nothing was left to do; then it does nothing and counts nothing.
+    /// Takes the next row, and the token after it if the row's rule has no other row; or closes the innermost rule. Either is counted as a
+    /// step. Answers whether nothing was left to do; in that case nothing is done or counted.
     ///
     /// # Errors
     ///
-    /// What the symbol means, where that is a refusal, or `Memory`; and the same from then on.
+    /// The refusal that the symbol means, or `Memory`; each later call refuses for the same reason.
     pub fn step(&mut self, language: &mut L, symbol: &[u8], rows: &[Row]) -> Result<bool, Refusal>
         requires fits { Fits symbol.now rows.now }
         requires driving { (tree : Tree) × IsShape (L.view symbol.now).table symbol.now rows.now tree
@@ -309,19 +310,20 @@ impl<L: Linking> Driver<L> {
         ensures answers { (tree : Tree) → IsShape (L.view symbol.now).table symbol.now rows.now tree
             → IsDriving (L.view symbol.now) symbol.now rows.now tree language.old self.old.steps self.old.refused self.old.next self.old.frames.items self.old.parts.items
             → IsStepTo (L.view symbol.now) symbol.now rows.now tree language.new self.old.steps self.new.steps self.old.refused self.new.refused self.new.parts.items result }
-        // A step that is counted adds at most two nodes, refused or not, and no other adds any.
+        // A step that is counted adds at most two nodes, refused or not, and no other step adds
+        // any.
         ensures nodes { (L.view symbol.now).size language.new + 2 * self.old.steps ≤ (L.view symbol.now).size language.old + 2 * self.new.steps }
         ensures language { result ≡ Ok true → language.new ≡ language.old }
         ensures frames { result ≡ Ok true → self.new.frames.items ≡ self.old.frames.items }
         ensures parts { result ≡ Ok true → self.new.parts.items ≡ self.old.parts.items }
         ensures next { result ≡ Ok true → self.new.next ≡ self.old.next }
-        // Nothing is left to do exactly where no rule is open any more: a driver that has answered true answers it again.
+        // Nothing is left to do exactly where no rule is open any more: a driver that has answered true answers true again.
         ensures over { self.old.refused ≡ None → self.old.frames.items ≡ [] → 0 < self.old.next → result ≡ Ok true }
         ensures closed { result ≡ Ok true → self.new.frames.items ≡ [] }
         ensures begun { result ≡ Ok true → 0 < self.new.next }
         ensures again { IfSome self.old.refused (λ refusal. (result ≡ Err refusal) × (language.new ≡ language.old)) }
         ensures keeps { KeepsAllRoom (L.view symbol.now) language.old language.new self.old.frames self.new.frames self.old.parts self.new.parts }
-        // Memory is answered first only where a list had no room, or the symbol has a token that takes memory of its own.
+        // `Memory` is the first refusal only where a list had no room, or the symbol has a token that takes memory of its own.
         ensures full { self.old.refused ≡ None
             → NeedsSomeRoom (L.view symbol.now) symbol.now language.old language.new self.old.frames self.new.frames self.old.parts self.new.parts result }
     {
@@ -379,7 +381,7 @@ impl<L: Linking> Driver<L> {
         ensures again { IfSome self.old.refused (λ refusal. (result ≡ Err refusal) × (language.new ≡ language.old)) }
         ensures steps { self.old.steps ≤ self.new.steps }
         ensures keeps { KeepsAllRoom (L.view symbol.now) language.old language.new self.old.frames self.new.frames self.old.parts self.new.parts }
-        // Memory is answered first only where a list had no room, or the symbol has a token that takes memory of its own.
+        // `Memory` is the first refusal only where a list had no room, or the symbol has a token that takes memory of its own.
         ensures full { self.old.refused ≡ None
             → NeedsSomeRoom (L.view symbol.now) symbol.now language.old language.new self.old.frames self.new.frames self.old.parts self.new.parts result }
     {

@@ -1,27 +1,27 @@
 // What a language gives the driver.
 //
-// A language has a reading (`specs/Reading.antt`), which says what a tree means with no word of rows, frames or nodes. The
-// driver goes over the rows, and the language makes nodes at four moments: the root begins, a rule begins in another one, a
-// token is taken, and a rule closes. An instance gives a `view` (`specs/Linking.antt`), and shows of each moment (`opens`,
-// `takes`, `closes`): if the frame, the parts after `frame.base` and the nodes denote an open rule of the reading, the values
-// of its parts so far and the state, then after the call they denote what the reading says, or the refusal is the reading's. A
-// refusal for want of memory says nothing of the symbol.
+// A language has a reading (`specs/Reading.antt`), which says what a tree means with no word of rows, frames or nodes. The driver goes over
+// the rows, and the language makes nodes at four moments: the root begins, a rule begins in another one, a token is taken, and a rule
+// closes. An instance gives a `view` (`specs/Linking.antt`), and shows the following of each moment (`opens`, `takes`, `closes`). Before
+// the call, the frame, the parts after `frame.base` and the nodes denote an open rule of the reading, the values of its parts so far and
+// the state. After the call they denote what the reading says, or the refusal is the reading's. A refusal for want of memory says nothing
+// of the symbol.
 //
-// - At each moment but the root's a rule is open at the frame (`IsOpen`), so the language may go by what the frame and its
-//   parts denote.
+// - At each moment except the root's, a rule is open at the frame (`IsOpen`), so the language may go by what the frame and its parts
+//   denote.
 // - The premises of a moment are one record, `IsInside`. A language that gives no value to parts
-//   without a row uses only its `kept`, `parts`, `holds` and `place`. Where the language is one by
-//   meaning (`specs/Cases.antt`), `plain_next` and `plain_ended` in `proofs/Cases.antt` reduce the
+//   without a row uses only its `kept`, `parts`, `holds` and `place`. For a language by meaning
+//   (`specs/Cases.antt`), `plain_next` and `plain_ended` in `proofs/Cases.antt` reduce the
 //   reading's side to the inputs of the next part, and to what the rule means. For a language that
-//   wants to know, `stands` says which rule of the grammar it is and which parts it has passed.
+//   needs to know, `stands` says which rule of the grammar is open and which parts this rule has
+//   passed.
 // - `adds`: the nodes are the old ones and at most n more. `Grows` is what must be kept, so that parts and frames denote what
 //   they denoted (the laws `part_stays`, `kept_stays`). `few`: the same holds of a call that is refused. With the laws `two`
 //   and `two_at_once` a step of the driver adds at most two nodes.
-// - `pays`: what the language writes beside its nodes is paid for by bytes of the symbol. Bytes up
-//   to `at` have paid so far, where `at` is a place that no row so far lies after. A token adds the
-//   bytes from `at` up to its end; if it is the first part with a row of its rule, `at` is no later
-//   than the rule (the frame then has no parts, if parts without a row have no value).
-//   Before each call the bytes of the whole symbol have paid (`room`), so `IsPaid` may hold other invariants, too.
+// - `pays`: what the language writes beside its nodes is paid for by bytes of the symbol. So far the bytes up to `at` have paid, and no
+//   row lies after `at`. A token adds the bytes from `at` up to its end; if the token is the first part of its rule with a row, `at` is no
+//   later than the rule (the frame then has no parts, if parts without a row have no value). Before each call the bytes of the whole symbol
+//   have paid (`room`), so `IsPaid` may hold other invariants, too.
 // - `full`: `Memory` is answered only where a list, the language's or that of the parts, had no room for what was put on it
 //   (`lists`), or for a token that takes memory of its own (`TakesMemory`). With `keeps` this persists over calls.
 // - `laws`: see `IsLinking`.
@@ -37,10 +37,10 @@ use sym_shape::rule::Row;
 
 /// An open rule: where its parts begin, its place, the row after it, what the language keeps for it, and its number.
 ///
-/// The moments of a language take the frame by reference. By value it was taken apart and put
-/// together again at each call, which took 8 % of the instructions over real C++ symbols. The
-/// frame's fields leave no gap in memory if those of what is kept leave none: it has 40 bytes for
-/// C++.
+/// The moments of a language take the frame by reference. When the frame was passed by value, it
+/// was taken apart and put together again at each call, which took 8 % of the instructions over
+/// real C++ symbols. The frame's fields leave no gap in memory if the fields of what is kept leave
+/// none: the frame has 40 bytes for C++.
 #[derive(Clone, Copy, Debug, PartialEq, Eq)]
 pub struct Frame<K> {
     pub base: usize,

@@ -1,7 +1,7 @@
-// A language in which each part has one value, also one with no row, and something is done before each part.
+// A language in which each part has one value, even a part without a row, and something is done before each part.
 //
-// Such a language says what is done before a part, whatever part that is, and its code need not know of parts without a row:
-// `pass` does what precedes each of those, as soon as the rule reaches a part with a row, or closes.
+// Such a language says what is done before a part, whatever part that is. Its code need not know of parts without a row: `pass` does what
+// precedes each of them, once the rule reaches a part with a row or closes.
 //
 // Where something is done before a part, or a rule closes, the frame and the parts are those of an open rule (`IsOpenAt`).
 
@@ -119,7 +119,7 @@ pub trait Threading {
     ghost laws: { (s : List ℕ) → IsThreading (view s) };
 }
 
-/// Passes a part without a row of the frame's rule.
+/// Passes a part of the frame's rule that has no row.
 #[inline(always)]
 fn pass_one<L: Threading>(
     language: &mut L,
@@ -146,7 +146,7 @@ fn pass_one<L: Threading>(
     Ok(())
 }
 
-/// Passes the parts without a row of the frame's rule that precede the part with this number.
+/// Passes the parts of the frame's rule that have no row and precede the part with this number.
 #[inline(always)]
 pub fn pass<L: Threading>(
     language: &mut L,

@@ -6,7 +6,7 @@ use Rattle.sym_parts.specs.Plain.{plain, whole, alone}
 use Rattle.sym_parts.proofs.Turns.{marks_of-before}
 use Rattle.sym_parts.specs.declared.task.Task.TheVariants as task
 
--- of three marked texts in a row, the first two may be put together first
+-- if three marked texts follow one another, the first two may be put together first
 pub before-assoc : (m n others : Marked) → (m before n) before others ≡ m before (n before others)
 unfolding ◌before◌
 before-assoc marks.done n others = refl
@@ -21,7 +21,7 @@ before-done (text b rest) = ap (text b) (before-done rest)
 before-done (marked r o inside rest) = ap (marked r o inside) (before-done rest)
 
 module _ {T : Type 0} (marked_of : T → Marked) (IsLater : T → Type 0) (weight_of : T → ℕ) where
-  -- tasks that have grown by marks within some steps have grown by equal marks within as many steps or more
+  -- tasks that have grown by some marks within s steps have also grown by equal marks within s steps or more
   pub grow-same : (old new : List (Task T)) (m n : Marked) (s t : ℕ) → Grows marked_of IsLater weight_of old new m s → m ≡ n → s ≤ t → Grows marked_of IsLater weight_of old new n t
   grow-same old new m n s t grows same few = record {
     adds = λ others behind taken adds.
@@ -73,7 +73,7 @@ module _ {T : Type 0} (marked_of : T → Marked) (IsLater : T → Type 0) (weigh
         };
   }
 
-  -- a task for what is taken apart later adds its marks
+  -- a task for something that is taken apart later adds the marks of that thing
   pub grow-later : (old new : List (Task T)) (next : T) → new ≡ task.Later next ∷ old → IsLater next → Grows marked_of IsLater weight_of old new (marked_of next) (weight_of next)
   unfolding marks_of_tasks marks_of_task IsTask weight_of_tasks weight_of_task
   grow-later old new next is may = record {

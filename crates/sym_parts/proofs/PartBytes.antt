@@ -7,7 +7,7 @@ use Rattle.sym_parts.proofs.Spans.{unprinted_part}
 
 -- ## Parts that aren't in the text
 
--- if others have a property, so do they with one more part that has it, which a test may add
+-- all parts have a property if all others have it, and so does the part that a test may have added
 either : (P : Part → Type 0) → (b : Bool) (part : Part) (rest : List Part) → (b ≡ true → P part) → All P rest → All P (cond {A = List Part} b (part ∷ rest) rest)
 either P true part rest is others = All-cons P part rest (is refl) others
 either P false part rest is others = others

@@ -1,4 +1,4 @@
--- Where the stretches of a marked text are: each is a slice of it, and each two are in order.
+-- Where the stretches of a marked text are: each is a slice of the text, and any two are in order.
 use Rattle.sym_parts.proofs.Basics.{ℕ, zero, suc, ◌+◌, ◌≤◌, List, [], ◌∷◌, ◌++◌, length, arith, length-append, inl, inr, All, AllPairs, All-nil, All-cons, All-head, All-tail, All-append, All-weaker, AllPairs-cons, Stretch, Marked, done, text, marked, text_of, stretches_from, stretches_of, IsBetween, AreInOrder, start_of_stretch, end_of_stretch, AreStretchesPlaced}
 
 module _ {X : Type 0} (R : X → X → Type 0) where
@@ -65,7 +65,7 @@ behind : (whole : Stretch) (to : ℕ) (parts : List Stretch) → All (IsSlice (e
 behind whole to parts after =
     All-weaker (IsSlice (end_of_stretch whole) to) (IsInOrder whole) (λ y slice. (omega (arith, slice.0), inr slice.0)) parts after
 
--- each two stretches are in order
+-- any two stretches are in order
 pub order : (place : ℕ) (m : Marked) → AllPairs IsInOrder (stretches_from place m)
 unfolding text_of stretches_from
 order place done = AllPairs-nil IsInOrder

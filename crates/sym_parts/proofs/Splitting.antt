@@ -6,7 +6,7 @@ use Rattle.sym_print.specs.declared.layout.Part.TheVariants.{Sub}
 use Rattle.sym_print.specs.Unshared.{Unshared, item, bytes, text_of, cost_of, cost_of_parts}
 use Rattle.sym_print.proofs.Noting.{length_of_text}
 
--- where parts cost at most this much, so do their first item and the rest after it
+-- if parts cost at most this much, so do their first item and the rest after it
 costs-item : (u : Unshared) (most : ℕ) (one rest : Unshared) → u ≡ item one rest → cost_of_parts u ≤ most → (1 + cost_of_parts one ≤ most) × ((1 + cost_of_parts one) + cost_of_parts rest ≤ most) × (cost_of_parts rest ≤ most)
 costs-item u most one rest is within =
     let costs : cost_of_parts u ≡ (1 + cost_of_parts one) + cost_of_parts rest = ap cost_of_parts is in
@@ -17,7 +17,7 @@ costs-text u most b rest is within =
     let costs : cost_of_parts u ≡ length b + cost_of_parts rest = ap cost_of_parts is in
     (omega (arith, costs, within), omega (arith, costs, within))
 
--- once an item is added to a sum of lengths: the sum includes the item's text, and the rest may cost what is left
+-- once an item is added to a sum of lengths, the sum includes the item's text, and the rest may cost what is left
 pub adds-item : (u one rest : Unshared) (total n all most : ℕ) → u ≡ item one rest → total + length (text_of u) ≡ all → total + cost_of_parts u ≤ most → n ≡ length (text_of one)
     → ((total + n) + length (text_of rest) ≡ all) × ((total + n) + cost_of_parts rest ≤ most)
 adds-item u one rest total n all most is sum paid long =

@@ -1,4 +1,4 @@
--- The stretches that the marks of a text list are those of the marked text.
+-- The stretches that the marks give are those of the marked text.
 use Rattle.sym_parts.proofs.Basics.{◌≡◌, ℕ, ◌+◌, List, [], ◌∷◌, ◌++◌, length, refl, sym, ap, ◌∙◌, arith, append_assoc, length-append, Stretch, Marked, done, text, marked, text_of, ◌before◌, stretches_from, Mark, skip, begin, marks_of, stretches_at, skipped}
 use Rattle.std.proofs.Math.Nat.{add-zero}
 
@@ -18,7 +18,7 @@ skipped-append [] second = omega arith
 skipped-append (skip n ∷ rest) second = omega (arith, skipped-append rest second)
 skipped-append (begin role ordinal n ∷ rest) second = skipped-append rest second
 
--- the stretches that two lists of marks list: the first list's, and then the second's
+-- the stretches that two lists of marks give: the first list's, and then the second's
 pub stretches_at-append : (place : ℕ) (first second : List Mark) → stretches_at place (first ++ second) ≡ stretches_at place first ++ stretches_at (place + skipped first) second
 unfolding stretches_at skipped
 stretches_at-append place [] second = ap (λ p. stretches_at p second) (sym (add-zero place))
@@ -43,7 +43,7 @@ skipped-marks_of (marked role ordinal inside rest) =
       length-append (text_of inside) (text_of rest),
     )
 
--- the marks of a text list its stretches
+-- the marks of a text give its stretches
 pub stretches_at-marks_of : (place : ℕ) (m : Marked) → stretches_at place (marks_of m) ≡ stretches_from place m
 unfolding stretches_at marks_of stretches_from
 stretches_at-marks_of place done = refl

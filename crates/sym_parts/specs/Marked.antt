@@ -1,4 +1,5 @@
--- A text with marked stretches, each the part of a role with an ordinal, and the list of stretches that the marks give.
+-- A text with marked stretches, each of them a part with a role and an ordinal, and the list of stretches that the
+-- marks give.
 use Rattle.std.specs.Prelude.{ℕ, ◌+◌, length, List, [], ◌∷◌, ◌++◌}
 use Rattle.sym_parts.specs.declared.role.Role.{Role}
 use Rattle.sym_parts.specs.declared.spelling.Ordinal.{Ordinal}

@@ -37,7 +37,7 @@ unfoldable pub once : Span → Role → List Spelled → Span
 once others role [] = others
 once others role (spelled ∷ rest) = if nat_eq (role_number spelled.role) (role_number role) then spelled.span else once others role rest
 
--- what spells an element of an item: what spells the item, where it has no element with this number
+-- what spells an element of an item; if the item has no element with this number, what spells the item
 unfoldable pub element_of : List Span → Item → ℕ → Span
 element_of elements item zero = item.span
 element_of elements item (suc n) = if nat_lt n item.count then or_others item.span (slice_get elements (item.first + n)) else item.span

@@ -45,7 +45,8 @@ pub record Adds {T : Type 0} (marked_of : T → Marked) (IsLater : T → Type 0)
 pub record Grows {T : Type 0} (marked_of : T → Marked) (IsLater : T → Type 0) (weight_of : T → ℕ) (old new : List (Task T)) (m : Marked) (steps : ℕ) : Type 0 where
   pub adds : (others : List (Task T)) (behind : Marked) (taken : ℕ) → Adds marked_of IsLater weight_of others old behind taken → Adds marked_of IsLater weight_of others new (m before behind) (taken + steps)
 
--- Together with the marks `these`, what was found before gives the same stretches and place as what is found now with `those`.
+-- With the marks `these`, what was found before gives the same stretches and place as what is found now gives with the marks
+-- `those`.
 pub record Lists (old new : Found) (these those : List Mark) : Type 0 where
   pub stretches : old.stretches ++ stretches_at old.place these ≡ new.stretches ++ stretches_at new.place those
   pub place : old.place + skipped these ≡ new.place + skipped those

@@ -12,8 +12,7 @@ ghost use Rattle.std.specs.List.{All};
 ghost use Rattle.sym_parts.specs.Marks.{marks_of, stretches_at};
 ghost use Rattle.sym_parts.specs.declared.role.Role.{Role};
 
-/// The stretches of a marked text are slices of it, in the order of their starts; and of two stretches one is within the
-/// other, or they are apart.
+/// The stretches of a marked text are slices of it, in the order of their starts; any two are apart, or one is within the other.
 pub fn stretches_are_placed()
     ensures { (m : Marked) → AreStretchesPlaced (length (text_of m)) (stretches_of m) }
 {}
@@ -23,7 +22,7 @@ pub fn stretches_are_few()
     ensures { (m : Marked) → length (stretches_of m) ≡ marks_in m }
 {}
 
-/// The marks of a text in turn list its stretches.
+/// The marks of a text, taken in turn, give its stretches.
 pub fn marks_list_the_stretches()
     ensures { (m : Marked) → stretches_at 0 (marks_of m) ≡ stretches_of m }
 {}
@@ -38,13 +37,13 @@ pub fn unprinted_parts_are_last()
     ensures { (end : ℕ) (spans : List Spelled) → All (IsUnprinted end) (unprinted end spans) }
 {}
 
-/// The parts of a marked text are slices of it, whatever spells them, in the order of their starts; and of two parts one is
-/// within the other, or they are apart.
+/// Whatever spells them, the parts of a marked text are slices of the text, in the order of their starts; any two are apart, or one is
+/// within the other.
 pub fn parts_are_placed()
     ensures { (s : Spelling) (m : Marked) → ArePlaced (length (text_of m)) (parts_spelled s (length (text_of m)) (stretches_of m)) }
 {}
 
-/// Where all spans of a spelling are within a symbol, the bytes of each part are, too.
+/// If all spans of a spelling are within a symbol, so are the bytes of each part.
 pub fn bytes_are_within()
     ensures { (symbol : ℕ) (s : Spelling) (length : ℕ) (stretches : List Stretch) → IsWithin symbol s → All (IsSpelledWithin symbol) (parts_spelled s length stretches) }
 {}

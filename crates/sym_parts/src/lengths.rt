@@ -12,11 +12,11 @@ use std::alloc::Global;
 use sym_core::Refusal;
 use sym_print::{Layout, Part, Printer};
 
-/// How many bytes a part prints, where it costs at most the limit.
+/// How many bytes a part prints, if it costs at most the limit.
 ///
 /// # Errors
 ///
-/// `TooLong` only where it costs more, and `Memory`.
+/// `TooLong` only where the part costs more, and `Memory`.
 pub fn length_of_part<Y: Layout>(
     alloc: Global,
     y: &Y,
@@ -46,7 +46,7 @@ pub fn length_of_part<Y: Layout>(
     }
 }
 
-/// How many bytes a part prints that costs at most `most`.
+/// How many bytes a part prints; it costs at most `most`.
 ///
 /// # Errors
 ///
@@ -65,7 +65,7 @@ pub fn length_of<Y: Layout>(
     length_of_part(alloc, y, part, most)
 }
 
-/// How many bytes parts print that cost at most `most` together.
+/// How many bytes parts print; together they cost at most `most`.
 ///
 /// # Errors
 ///

@@ -6,11 +6,11 @@ use crate::role::Role;
 #[derive(Clone, Copy, Debug, PartialEq, Eq)]
 pub struct Part {
     pub role: Role,
-    /// How many bytes of the text are before it.
+    /// How many bytes of the text are before the part.
     pub start: u32,
     pub length: u32,
-    /// How many bytes of the symbol are before what spells it.
+    /// How many bytes of the symbol are before the bytes that spell the part.
     pub from: u32,
-    /// How many bytes of the symbol are before the end of what spells it.
+    /// How many bytes of the symbol are before the end of the bytes that spell the part.
     pub to: u32,
 }

@@ -52,7 +52,7 @@ pub fn push_alone<T: Copy>(
     tasks.push(Task::Begin(role, ordinal, count))
 }
 
-/// Adds tasks for one part, to which all bytes that these parts print belong.
+/// Adds tasks for one part that consists of all bytes that these parts print.
 ///
 /// # Errors
 ///

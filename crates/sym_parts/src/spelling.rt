@@ -11,7 +11,7 @@ pub struct Span {
     pub to: u32,
 }
 
-/// Which of the parts of its role a part is, in the order in which the symbol spells them.
+/// The place of a part among the parts of its role, in the order in which the symbol spells them.
 #[derive(Clone, Copy, Debug, PartialEq, Eq)]
 pub struct Ordinal {
     /// The number of an item of a list, from 0.

@@ -66,7 +66,7 @@ impl Stretches {
     ///
     /// # Errors
     ///
-    /// `Memory` where the list couldn't grow. It is unchanged then.
+    /// `Memory` where the list couldn't grow; the list is unchanged then.
     pub fn begin(&mut self, role: Role, ordinal: Ordinal, length: u32) -> Result<(), Refusal>
         ensures stretches { OnOk result (self.new.stretches ≡ self.old.stretches ++ record { role = role; ordinal = ordinal; start = self.old.place; length = length } ∷ []) }
         ensures unchanged { OnErr result (self.new.stretches ≡ self.old.stretches) }

@@ -1,4 +1,4 @@
--- What a printer answers is the text within the limit.
+-- A printer answers the text, if the text costs at most the limit.
 use Rattle.sym_print.proofs.Basics.{◌≡◌, ℕ, ◌<◌, ◌≤◌, Bool, true, false, List, Result, Ok, Err, ap, ◌∙◌, sym, le-leb, lt-leb, Refusal, Unshared, text_of, cost_of}
 use Rattle.sym_print.specs.Answer.{text_within}
 

@@ -66,7 +66,8 @@ module _ {C : Type 0} (unshared : Item C → Unshared) (bytes_of : Part C → Li
   spare : List (Part C) → ℕ
   spare = spare_of_stack bytes_of
 
-  -- An entry was taken: others take its place, and the bytes that it prints ahead of theirs are written.
+  -- An entry was taken: other entries take its place, and the bytes that it prints before those of the other entries
+  -- are written.
   pub record Moves (stack new : List (Part C)) (text written : List ℕ) (spent paid taken counted : ℕ) : Type 0 where
     pub left : List (Part C)
     pub next : Part C
@@ -131,7 +132,7 @@ module _ {C : Type 0} (unshared : Item C → Unshared) (bytes_of : Part C → Li
         m.few,
       )
 
-  -- the entries above a place that is below the entry taken move as the whole stack does
+  -- if a place is below the entry that is taken, the entries above that place move as the whole stack does
   moved-above : (stack new : List (Part C)) (text written : List ℕ) (spent paid taken counted below from : ℕ) → Moves stack new text written spent paid taken counted
       → below < length stack → from ≤ length text → Moves (drop below stack) (drop below new) (drop from text) (drop from written) spent paid taken counted
   moved-above stack new text written spent paid taken counted below from m lt within =

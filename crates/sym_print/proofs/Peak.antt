@@ -1,4 +1,4 @@
--- Taking an entry from a stack doesn't raise the most entries that the stack has at once.
+-- Taking an entry from a stack doesn't raise the greatest number of entries that the stack has at once.
 use Rattle.sym_print.proofs.Basics.{◌≡◌, ℕ, suc, ◌+◌, ◌-◌, ◌*◌, ◌≤◌, List, [], ◌∷◌, ◌++◌, length, take, reverse, ap, subst, sym, arith, reverse-append, length-append, length-reverse, Item, Part, Sub, Unshared, joined, IsNext, height_of, height_of_part, peak_above, peak_of_stack}
 use Rattle.sym_print.proofs.Stack.{next_is_last}
 
@@ -16,7 +16,7 @@ module _ {C : Type 0} (unshared : Item C → Unshared) (bytes_of : Part C → Li
   low_reverse most [] low = tt
   low_reverse most (first ∷ rest) low = subst (AreLow most) (sym (reverse-append (first ∷ []) rest)) (low_last most (reverse rest) first (low_reverse most rest low.1) low.0)
 
-  -- the parts of an item are lower than it
+  -- the parts of an item are lower than the item
   low_parts : (most : ℕ) (parts : List (Part C)) → height_of (joined unshared bytes_of parts) ≤ most → AreLow most parts
   low_parts most [] low = tt
   low_parts most (Sub i ∷ rest) low = (omega (arith, low), low_parts most rest (omega (arith, low)))
@@ -58,14 +58,14 @@ module _ {C : Type 0} (unshared : Item C → Unshared) (bytes_of : Part C → Li
   same_peak : (old new : List (Part C)) → old ≡ new → peak_above unshared 0 new ≤ peak_above unshared 0 old
   same_peak old new same = omega (arith, ap (λ xs. peak_above unshared 0 xs) same)
 
-  -- once the next entry is taken off, the most entries are no more than before
+  -- once the next entry is taken off, the greatest number of entries is no more than before
   pub peak_of_left : (stack left : List (Part C)) (next : Part C) → IsNext stack next → left ≡ take (length stack - 1) stack → peak_of_stack unshared left ≤ peak_of_stack unshared stack
   peak_of_left stack left next is_next is =
       let kept = take (length stack - 1) stack in
       let whole = same_peak stack (kept ++ next ∷ []) (next_is_last stack next is_next) in
       omega (arith, ap (λ xs. peak_above unshared 0 xs) is, peak_under (peak_above unshared 0 stack) 0 kept next whole)
 
-  -- once at most eight parts take the place of their item, the most entries are no more than before
+  -- once at most eight parts take the place of their item, the greatest number of entries is no more than before
   pub peak_of_visit : (stack new parts : List (Part C)) (i : Item C) → IsNext stack (Sub i) → unshared i ≡ joined unshared bytes_of parts → new ≡ take (length stack - 1) stack ++ reverse parts
       → length new ≤ length stack + 7 → peak_of_stack unshared new ≤ peak_of_stack unshared stack
   peak_of_visit stack new parts i is_next shown is few =
@@ -80,7 +80,8 @@ module _ {C : Type 0} (unshared : Item C → Unshared) (bytes_of : Part C → Li
       let above : peak_above unshared (0 + length left) (reverse parts) ≤ most = omega (arith, peak_low (height_of (unshared i)) (0 + length left) (reverse parts) low, high, length-reverse parts, count) in
       omega (arith, ap (λ xs. peak_above unshared 0 xs) is, peak_both most 0 left (reverse parts) (peak_under most 0 left (Sub i) whole) above)
 
-  -- once others take the next entry's place, and need no more entries than it does, the most entries are no more than before
+  -- once others take the next entry's place, and need no more entries than it does, the greatest number of entries is no
+  -- more than before
   pub peak_of_turn : (stack new above : List (Part C)) (next : Part C) → IsNext stack next → new ≡ take (length stack - 1) stack ++ above
       → peak_above unshared (length (take (length stack - 1) stack)) above ≤ length (take (length stack - 1) stack) + 1 + 7 * height_of_part unshared next
       → peak_of_stack unshared new ≤ peak_of_stack unshared stack

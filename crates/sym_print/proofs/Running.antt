@@ -1,4 +1,5 @@
--- A run of items prints what its end and the text after that print. It costs what these cost, and 1 for each of its items.
+-- A run of items prints what its end and the text after the end print. It costs what these cost, and 1 for each of its
+-- items.
 use Rattle.sym_print.proofs.Basics.{◌≡◌, ℕ, ◌+◌, ◌-◌, ◌*◌, ◌<◌, ◌≤◌, Option, Some, None, List, [], ◌∷◌, ◌++◌, length, take, refl, sym, ap, ◌∙◌, append_assoc, append-nil, arith, length-append, All, All-nil, All-cons, All-head, All-tail, All-append, All-take, All-same, Item, Part, Sub, Unshared, text_of, cost_of, cost_of_parts, steps_of, steps_of_parts, IsNext, IsText, text_of_stack, cost_of_stack, steps_of_stack, height_of, height_of_part, peak_above, peak_of_stack, spare_of_stack}
 use Rattle.sym_print.specs.declared.layout.Run.{Run}
 use Rattle.sym_print.specs.Runs.{nested, texts_of, IsTextOfRun, entries_of_run, steps_of_run, IsRun}
@@ -96,7 +97,7 @@ module _ {C : Type 0} (unshared : Item C → Unshared) (bytes_of : Part C → Li
   entries_may_come end texts None may none = All-cons may_come (Sub end) [] may (All-nil may_come)
   entries_may_come end texts (Some part) may text = All-cons may_come part (Sub end ∷ []) text.1 (All-cons may_come (Sub end) [] may (All-nil may_come))
 
-  -- all entries may be asked for, once a run's end is in its place
+  -- the test `may_come` holds of all entries once a run's end is in its place
   pub All-run : (stack new : List (Part C)) (i : Item C) (run : Run C) → All may_come stack → IsRun unshared bytes_of may_come i run
       → new ≡ take (length stack - 1) stack ++ entries_of_run run.item run.text → All may_come new
   All-run stack new i run all is_run is =
@@ -114,7 +115,7 @@ module _ {C : Type 0} (unshared : Item C → Unshared) (bytes_of : Part C → Li
   entries_are_low below i end levels texts (Some part) e count some text =
       omega (arith, ap height_of e, height_of_nested texts (unshared end), count, some, low_text part text.0)
 
-  -- a run doesn't raise the most entries
+  -- a run doesn't raise the greatest number of entries
   pub peak_of_run : (stack new : List (Part C)) (i : Item C) (run : Run C) → IsNext stack (Sub i) → IsRun unshared bytes_of may_come i run
       → new ≡ take (length stack - 1) stack ++ entries_of_run run.item run.text → peak_of_stack unshared new ≤ peak_of_stack unshared stack
   peak_of_run stack new i run h is_run is =

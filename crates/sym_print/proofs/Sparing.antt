@@ -1,4 +1,4 @@
--- By how much the texts of a stack cost more than their steps.
+-- How much more the texts of a stack cost than their steps.
 use Rattle.sym_print.proofs.Basics.{◌≡◌, ℕ, ◌+◌, ◌-◌, List, [], ◌∷◌, ◌++◌, length, refl, arith, Part, Sub, IsText, spare_of_part, spare_of_stack}
 
 module _ {C : Type 0} (bytes_of : Part C → List ℕ) where

@@ -60,7 +60,7 @@ module _ {C : Type 0} where
       → with_parts stack (drop k parts) ≡ now ++ part ∷ []
   above_moved stack moved now parts k part h put same = above_is stack parts k part h ∙ ap (λ s. s ++ part ∷ []) (sym (same ∙ put))
 
-  -- once the parts after a part are moved to the stack, that part and they are above the stack
+  -- once the parts after a part are moved to the stack, that part and the moved ones are above the stack
   pub moved_is : (stack moved parts left : List (Part C)) (k : ℕ) (part : Part C) → slice_get parts k ≡ Some part → moved ≡ with_parts stack (drop (k + 1) parts) → left ≡ take (k + 1) parts
       → with_parts moved (drop k left) ≡ with_parts stack (drop k parts)
   moved_is stack moved parts left k part h put kept =
@@ -197,7 +197,7 @@ module _ {C : Type 0} (unshared : Item C → Unshared) (bytes_of : Part C → Li
   steps_of_visit stack parts left i old new h e paid =
       omega (arith, paid, steps_of_stack-append (take (length stack - 1) stack) (reverse left), steps_of_stack-reverse left, ap steps_of_parts e, steps_of_next stack (Sub i) h)
 
-  -- text, cost and steps likewise, where the item was taken from the stack before
+  -- likewise for text, cost and steps, where the item was taken from the stack before
   pub text_of_turn : (held below after parts left : List (Part C)) (i : Item C) (old new whole : List ℕ) → held ≡ below ++ Sub i ∷ [] → after ≡ below ++ reverse left
       → unshared i ≡ joined unshared bytes_of parts → new ++ text_of (joined unshared bytes_of left) ≡ old ++ text_of (joined unshared bytes_of parts)
       → old ++ text_of_stack unshared bytes_of held ≡ whole → new ++ text_of_stack unshared bytes_of after ≡ whole

@@ -1,4 +1,4 @@
--- An item prints its parts, and so do the code's parts of it.
+-- An item prints its parts, and the code's parts of the item print the same.
 use Rattle.sym_print.proofs.Basics.{◌≡◌, ℕ, zero, suc, ◌<◌, List, [], ◌∷◌, refl, sym, ap, ◌∙◌, arith, Item, Part, Sub, Unshared, bytes, item, joined}
 use Rattle.sym_print.specs.Unfold.{PartOf, text, sub, printed_parts, RanksBelow, printed_to, printed, AreParts, AreAlike}
 

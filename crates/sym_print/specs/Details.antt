@@ -10,7 +10,7 @@ has_arguments Brief = false
 has_arguments NoParameters = true
 has_arguments BriefNoParameters = false
 
--- whether functions have their parameters, and what surrounds those
+-- whether functions have their parameters, and what surrounds the parameters
 abbrev pub has_parameters : Detail → Bool
 has_parameters Full = true
 has_parameters Brief = true

@@ -15,7 +15,7 @@ module _ {C : Type 0} where
   abbrev pub IsNext : List (Part C) → Part C → Type 0
   IsNext stack part = slice_get stack (length stack - 1) ≡ Some part
 
-  -- a stack, and above it parts, the first on top
+  -- a stack with parts put above it, the first one on top
   abbrev pub with_parts : List (Part C) → List (Part C) → List (Part C)
   with_parts stack parts = stack ++ reverse parts
 

@@ -1,4 +1,4 @@
--- The most entries that a stack has at once while it is printed, by how deep items lie within one another.
+-- The most entries that a stack has at once while it is printed, given how deep items lie within one another.
 use Rattle.std.specs.Prelude.{ℕ, ◌+◌, ◌*◌, List, [], ◌∷◌, max}
 use Rattle.sym_print.specs.declared.layout.Item.{Item}
 use Rattle.sym_print.specs.declared.layout.Part.{Part}
@@ -17,8 +17,8 @@ module _ {C : Type 0} (unshared : Item C → Unshared) where
   height_of_part (Sub i) = 1 + height_of (unshared i)
   height_of_part _ = 0
 
-  -- The most entries while these are printed, with others below them. At most eight parts take an item's place, so each item
-  -- within an entry adds at most seven.
+  -- The most entries of a stack while these entries are printed, with others below them. At most eight parts take an
+  -- item's place, so each item within an entry adds at most seven.
   abbrev pub peak_above : (below : ℕ) → List (Part C) → ℕ
   peak_above below [] = below
   peak_above below (part ∷ above) = max (below + 1 + 7 * height_of_part part) (peak_above (below + 1) above)

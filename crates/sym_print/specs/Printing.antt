@@ -24,7 +24,7 @@ module _ {C : Type 0} where
   abbrev pub may_spend : Printer C → ℕ
   may_spend printer = printer.meter.limit
 
-  -- how many steps were taken; one that was refused counts
+  -- how many steps were taken; a refused step counts, too
   abbrev pub taken : Printer C → ℕ
   taken printer = printer.meter.steps + refusals printer.refusal
 

@@ -1,4 +1,4 @@
--- Items that lie within one another, each with one item as its parts and, after that, at most one text.
+-- Items that lie within one another. The parts of each are one item and, after that, at most one text.
 use Rattle.std.specs.Prelude.{◌≡◌, ℕ, ◌+◌, ◌-◌, ◌<◌, Option, Some, None, length, List, [], ◌∷◌, ◌++◌}
 use Rattle.std.specs.List.{All}
 use Rattle.sym_print.specs.declared.layout.Item.{Item}

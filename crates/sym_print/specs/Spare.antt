@@ -1,4 +1,4 @@
--- How far the texts of a stack are dearer than the steps that they take: a text is one step, and costs its bytes.
+-- How much more the texts of a stack cost than the steps that they take: a text is one step, and costs its bytes.
 use Rattle.std.specs.Prelude.{ℕ, ◌+◌, ◌-◌, length, List, [], ◌∷◌}
 use Rattle.sym_print.specs.declared.layout.Part.{Part}
 use Rattle.sym_print.specs.declared.layout.Part.TheVariants.{Sub}

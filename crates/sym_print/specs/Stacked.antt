@@ -6,7 +6,7 @@ use Rattle.sym_print.specs.declared.layout.Part.{Part}
 use Rattle.sym_print.specs.Unshared.{Unshared}
 use Rattle.sym_print.specs.Joined.{joined, with_parts}
 
--- The parts added to a stack, the first on top, may be asked for, and print what is shown.
+-- The parts added to a stack, the first on top, are parts that may come, and print what is shown.
 pub record Stacked {C : Type 0} (unshared : Item C → Unshared) (bytes_of : Part C → List ℕ) (may_come : Part C → Type 0) (below stack : List (Part C)) (shown : Unshared) : Type 0 where
   pub added : List (Part C)
   pub is : stack ≡ with_parts below added

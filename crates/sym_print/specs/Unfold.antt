@@ -40,7 +40,7 @@ AreParts item_of bytes_of (Sub _ ∷ _) _ = ⊥
 AreParts item_of bytes_of (part ∷ rest) (text b ∷ others) = (bytes_of part ≡ b) × AreParts item_of bytes_of rest others
 AreParts item_of bytes_of _ _ = ⊥
 
--- parts are alike by a relation of items: the same texts, and items that are related, in the same order
+-- parts are alike under a relation of items: the same texts, and items that are related, in the same order
 abbrev pub AreAlike : {I J : Type 0} → (I → J → Type 0) → List (PartOf I) → List (PartOf J) → Type 0
 AreAlike R [] [] = Unit {0}
 AreAlike R (text b ∷ rest) (text c ∷ others) = (b ≡ c) × AreAlike R rest others

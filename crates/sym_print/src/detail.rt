@@ -33,7 +33,7 @@ impl Detail {
         }
     }
 
-    /// Whether functions have their parameters, and what surrounds those.
+    /// Whether functions have their parameters, and what surrounds the parameters.
     #[inline(always)]
     pub fn has_parameters(self) -> bool
         ensures { result ≡ has_parameters self }

@@ -21,10 +21,10 @@ use std::alloc::AllocError;
 use sym_core::Refusal;
 use sym_room::make_room;
 
-/// What a text may cost, whatever its symbol, before it is dear.
+/// The most that a text may cost, whatever its symbol, without being dear.
 const CHEAP_TEXT: u32 = 1024;
 
-/// What more it may cost for each node of its symbol, before it is dear.
+/// How much more a text may cost for each node of its symbol without being dear.
 const CHEAP_NODE: u32 = 64;
 
 /// Adds bytes to a text. Up to three are added one at a time, which is faster than a copy.
@@ -223,7 +223,8 @@ fn append_again(text: &mut Vec<u8>, from: usize, to: usize) -> Result<(), AllocE
     Ok(())
 }
 
-/// Writes the text of the next entry, an item that is noted, again, and takes it from the stack.
+/// Writes again the text of the next entry, which is a noted item, and takes the entry from the
+/// stack.
 #[inline(always)]
 fn write_again<Y: Layout>(
     _y: &Y,
@@ -288,7 +289,7 @@ fn note_whole<Y: Layout>(
     }
 }
 
-/// Notes that the next entry, an item, is being written, if it is one to be noted.
+/// Notes that the next entry, an item, is being written, if that item is to be noted.
 #[inline(always)]
 fn begin_item<Y: Layout>(
     _y: &Y,
@@ -318,7 +319,7 @@ fn begin_item<Y: Layout>(
     }
 }
 
-/// Puts the end of a run of items, and below it the text after that, in the place of the next entry, which begins the run.
+/// Replaces the next entry, which begins a run of items, by the end of the run and, below it, the text after that end.
 fn open_run<C: Copy>(
     run: Run<C>,
     stack: &mut Vec<Part<C>>,
@@ -401,8 +402,8 @@ fn print_run<Y: Layout>(
     Ok(())
 }
 
-/// Takes the next entry, an item that is noted or begins a run, or in a dear text one that wasn't looked at. Where its text is noted that
-/// is written again. A run of items that begins with it is taken at once. Otherwise its parts take its place.
+/// Takes the next entry: an item that is noted or begins a run, or, in a dear text, an item that wasn't looked at. If the item's text is
+/// noted, that text is written again. A run of items that begins with the item is taken at once. Otherwise the item's parts take its place.
 // out of line, since most items are none of these
 #[inline(never)]
 fn print_special_item<Y: Layout>(
@@ -458,7 +459,7 @@ fn print_special_item<Y: Layout>(
     Ok(())
 }
 
-/// Takes the next entry, an item: its parts take its place, or what `print_special_item` does is done.
+/// Takes the next entry, an item: its parts take its place, unless `print_special_item` takes it.
 #[inline(always)]
 fn print_item<Y: Layout>(
     y: &Y,
@@ -503,8 +504,8 @@ fn print_item<Y: Layout>(
 }
 
 /// Takes entries until none is left. In a dear text each item that is printed more than once is noted.
-// One loop for dear texts and others: within two, `push_parts` was called for each item, for 4 % more instructions in all where
-// `demangle` reads instances of templates.
+// Dear texts and others share one loop: with two loops, `push_parts` was called for each item, which took 4 % more instructions in all
+// where `demangle` reads instances of templates.
 #[inline(never)]
 pub(crate) fn print_entries<Y: Layout>(
     y: &Y,
@@ -589,8 +590,8 @@ fn print_dear<Y: Layout>(
     print_entries(y, stack, text, notes, meter, true)
 }
 
-/// The most that the text of a stack may cost and not be dear. It grows with the number of nodes, which is at most the
-/// number of the stack's last entry: the whole symbol, where nothing was taken yet.
+/// The most that the text of a stack may cost without being dear. The bound grows with the node number of the stack's last entry, which is
+/// the whole symbol where nothing was taken yet.
 fn cheap_cost<C: Copy>(stack: &[Part<C>]) -> u32 {
     match stack {
         [.., Part::Sub(item)] => item
@@ -601,8 +602,8 @@ fn cheap_cost<C: Copy>(stack: &[Part<C>]) -> u32 {
     }
 }
 
-/// Takes entries until none is left. A text is printed as a cheap one first. If it costs more than that allows, and
-/// more may be spent, it is printed as a dear one from there.
+/// Takes entries until none is left. A text is printed as a cheap one first. If it costs more than a cheap text may, and more may be spent,
+/// it is printed as a dear one from there.
 #[inline(always)]
 fn print_all<Y: Layout>(
     y: &Y,

@@ -9,7 +9,7 @@ use sym_core::Span;
 
 /// A node of a symbol, seen in a form and a context.
 ///
-/// Nodes are shared: the same one may be printed at many places, in other forms and contexts.
+/// Nodes are shared: the same node may be printed at many places, in other forms and contexts.
 #[derive(Clone, Copy, Debug)]
 pub struct Item<C> {
     /// The node's number in the symbol's table.
@@ -19,7 +19,7 @@ pub struct Item<C> {
     pub form: u32,
     /// A place among the node's parts, for a form that prints the rest of a list.
     pub at: u32,
-    /// What the node inherits, as an index into a parameter pack or the number of lifetimes bound around it.
+    /// What the node inherits, such as an index into a parameter pack or the number of lifetimes bound around it.
     pub ctx: C,
 }
 
@@ -45,7 +45,7 @@ pub struct Run<C> {
     pub item: Item<C>,
     /// How many items are around it.
     pub levels: u32,
-    /// The texts of those items together.
+    /// The texts of the items around it, taken together.
     pub text: Option<Part<C>>,
 }
 
@@ -62,13 +62,14 @@ impl<C> Default for Part<C> {
 
 /// A value that can be printed item by item.
 ///
-/// It denotes trees in which nothing is shared: `unshared` says what an item prints, all the way down. An item's text is that
-/// of its parts in order, and its cost is 1, plus the lengths of its texts, plus the costs of the items among its parts. So
-/// these are defined over items whose parts have a smaller rank; `specs/Unfold.antt` makes such a tree of parts and a rank. The
-/// laws are clauses of the methods: the parts that `fill` and `push_parts` answer are those of the tree, they may be asked |
-/// for, there are at most eight, and no text is empty. No method takes memory.
+/// A layout denotes trees in which nothing is shared: `unshared` says what an item prints, all the way down. An item's text is that of its
+/// parts in order. Its cost is 1, plus the lengths of its texts, plus the costs of the items among its parts. So text and cost are defined
+/// if each item has a rank that is greater than those of the items among its parts; from the parts and the ranks, `specs/Unfold.antt`
+/// defines what an item prints. The laws are clauses of the
+/// methods: the parts that `fill` and `push_parts` answer are those of the tree, they may be asked for, there are at most eight, and no
+/// text is empty. No method takes memory.
 pub trait Layout {
-    /// The context that an item carries besides its node, as an index into a parameter pack.
+    /// The context that an item carries besides its node, such as an index into a parameter pack.
     type Ctx: Copy;
 
     ghost use Rattle.sym_print.specs.declared.layout.Item.{Item};
@@ -96,8 +97,7 @@ pub trait Layout {
 
     /// Pushes the parts of an item onto a stack that has room for eight, the first on top.
     ///
-    /// This is what a printer calls. A layout builds them there, the last part first, or moves what `fill` answers by
-    /// `push_reversed`.
+    /// A printer calls this. A layout builds the parts on the stack, the last one first, or moves what `fill` answers by `push_reversed`.
     // With a list between layout and stack the printer takes a third more instructions. Returning the first part, so that it
     // needn't be read again, is slower too: a part is too large to be returned in registers.
     fn push_parts(&self, item: Item<Self::Ctx>, stack: &mut Vec<Part<Self::Ctx>>)
@@ -114,8 +114,8 @@ pub trait Layout {
         ensures bytes { result.now ≡ bytes_of self.now part.now }
         ensures not_empty { 0 < length result.now };
 
-    /// Whether what an item prints is noted once it is written, and written again from there where the same item comes again.
-    /// Any answer is right: for most items the parts are as fast. In a dear text the printer decides by itself.
+    /// Whether the text of an item is noted once it is written, and copied from the note where the same item comes again. Any answer is
+    /// right: for most items, printing the parts is as fast. In a dear text the printer decides by itself.
     fn is_noted(&self, _item: Item<Self::Ctx>) -> bool
         requires may_come { may_come self.now (Part.Sub _item) }
     {
@@ -130,24 +130,25 @@ pub trait Layout {
         false
     }
 
-    /// Where items lie within one another, each with one item and at most one text after it as its parts: the item at which that
-    /// ends, how many items are around it, and their texts together. Either each of those items has a text, or none.
+    /// The run that begins at an item: items within one another, each of which consists of one item and at most one text after that item.
+    /// The answer gives the item at which the run ends, how many items are around that last one, and their texts together. Either each of
+    /// the items around it has a text, or none has one.
     ///
-    /// The printer takes a run at once. If the answer is none, which is always right, it takes each item by itself. In a text that isn't
-    /// dear it asks only where `begins_run` says so.
+    /// The printer takes a run at once. If the answer is none, which is always right, the printer takes each item by itself. In a text that
+    /// isn't dear, the printer asks only where `begins_run` says so.
     fn run(&self, item: Item<Self::Ctx>) -> Option<Run<Self::Ctx>>
         requires may_come { may_come self.now (Part.Sub item) }
         ensures run { IfSome result (λ run. IsRun (unshared self.now) (bytes_of self.now) (may_come self.now) item run) };
 
-    /// Whether a run that begins at an item is taken at once even where the text isn't dear. Any answer is right. It has to be fast, since
-    /// it is asked for most items.
+    /// Whether a run that begins at an item is taken at once even where the text isn't dear. Any answer is right. The method has to be
+    /// fast, since it is called for most items.
     fn begins_run(&self, item: Item<Self::Ctx>) -> bool
         requires may_come { may_come self.now (Part.Sub item) };
 
     /// A number of a context, by which the notes of a node in a dear text are found.
     ///
-    /// Any number is right: which note is an item's is for `is_same` to say. Where contexts of one node have the same number,
-    /// only some of the items are noted.
+    /// Any number is right, since `is_same` decides which note is an item's. Where contexts of one node have the same number, only some of
+    /// the items are noted.
     #[inline(always)]
     fn context_number(&self, _ctx: Self::Ctx) -> u64 {
         0

@@ -1,4 +1,4 @@
-//! A counted printer over any layout: it prints an item's text where that costs at most a limit.
+//! A counted printer over any layout: it prints an item's text if the text costs at most a limit.
 #![tactic(auto)]
 
 mod detail;

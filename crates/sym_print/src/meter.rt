@@ -3,7 +3,7 @@
 
 ghost use Rattle.std.specs.Prelude.{◌≡◌, ◌+◌, ◌*◌, ◌<◌, ◌≤◌, nat_le};
 
-/// What was spent of a limit, and in how many steps. Those of texts that are joined are counted before the texts are paid for.
+/// What was spent of a limit, and in how many steps. The steps of texts that are joined are counted before the texts are paid for.
 #[derive(Clone, Copy)]
 pub(crate) struct Meter {
     pub(crate) spent: u32,
@@ -28,7 +28,7 @@ impl Meter {
         }
     }
 
-    /// A copy with a limit by which at most `more` is spent, and not more than by the limit of its own.
+    /// A copy whose limit allows at most `more` to be spent, and no more than this meter's limit allows.
     pub(crate) fn for_at_most(&self, more: u32) -> Meter
         ensures spent { result.spent ≡ self.now.spent }
         ensures limit { result.limit ≤ self.now.limit }
@@ -46,7 +46,7 @@ impl Meter {
         }
     }
 
-    /// Has spent what another meter has, in as many steps.
+    /// Takes over what another meter has spent, and how many steps it counted.
     pub(crate) fn follow(&mut self, other: &Meter)
         requires within { other.now.spent ≤ self.old.limit }
         ensures spent { self.new.spent ≡ other.now.spent }
@@ -82,7 +82,7 @@ impl Meter {
         };
     }
 
-    /// Counts no more steps than what was spent.
+    /// Lowers the count of steps to what was spent, if the count is greater.
     pub(crate) fn settle(&mut self)
         ensures spent { self.new.spent ≡ self.old.spent }
         ensures limit { self.new.limit ≡ self.old.limit }

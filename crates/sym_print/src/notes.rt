@@ -1,4 +1,4 @@
-// The texts of items that were written, for where the same items come again.
+// Notes of items that were written, so that their texts are copied where the same items come again.
 #![tactic(auto)]
 
 ghost use Rattle.std.specs.Prelude.{◌≡◌, ◌+◌, ◌-◌, ◌≤◌, ◌++◌, ◌⊎◌, ◌∷◌, [], length, take, vec_len, true, false, IfSome, IfNone};
@@ -14,7 +14,7 @@ use std::alloc::Global;
 /// How many texts are known at a time, where a text isn't dear.
 const PLACES: usize = 64;
 
-/// The least cost of an item that is noted in a dear text: the parts of one that costs less are as fast.
+/// The least cost of an item that is noted in a dear text: a cheaper item is printed as fast from its parts.
 const LEAST_NOTED: u32 = 12;
 
 /// How many notes are compared with an item at most: one for each bit of a key.
@@ -26,7 +26,7 @@ const CONTEXT_BIT: u32 = 29;
 /// What a key is multiplied by: 2 ^ 64 divided by the golden ratio, as in Fibonacci hashing.
 const SPREAD: u64 = 11400714819323198485;
 
-/// The number of no note.
+/// A number that no note has.
 const NONE: u32 = 4294967295;
 
 /// An item that is written: where its text begins and ends, its cost, and its steps.
@@ -57,7 +57,7 @@ struct Fork {
     odd: u32,
 }
 
-/// Where the note of a key is, or would be: its number, the note before it, and on which side of that one.
+/// Where the note of a key is, or would be: the note's number, the note before it, and on which side of that earlier note it is.
 #[derive(Clone, Copy)]
 struct Spot {
     number: usize,
@@ -67,9 +67,9 @@ struct Spot {
 
 /// The items that are written, and those that are being written, the innermost last.
 ///
-/// Where a text isn't dear, only items that the layout chooses are known, each at the place of its node. In a dear text
-/// all items are known whose node is shared. Their notes are a tree in which the bits of a key lead to its note, so no
-/// symbol can make a search longer than `MOST_COMPARED`.
+/// Where a text isn't dear, only items that the layout chooses are known, each at the place of its node. In a dear text all items whose
+/// node is shared are known. Their notes form a tree in which the bits of a key lead to the key's note, so no symbol can make a search
+/// longer than `MOST_COMPARED`.
 #[derive(Drop)]
 pub(crate) struct Notes<C: Copy> {
     pub(crate) known: Vec<Note<C>>,
@@ -110,7 +110,7 @@ fn innermost<C: Copy>(begun: &[Begun<C>]) -> Option<&Begun<C>>
 }
 
 impl<C: Copy> Notes<C> {
-    /// No notes. It takes no memory.
+    /// No notes. The call takes no memory.
     pub(crate) fn idle(alloc: Global) -> Notes<C> {
         Notes {
             known: Vec::new(alloc),

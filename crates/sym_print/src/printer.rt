@@ -21,10 +21,10 @@ use sym_room::make_room;
 
 /// A text that is being printed, counted as it grows.
 ///
-/// The text so far and what the stack still prints are together the root's text. What was spent and what the stack
-/// still costs are together the root's cost. Both hold in every context of every shared node, if the items are those of
-/// a layout. So a printer never spends more than its limit: its text has at most `limit` bytes, its stack at most `8 *
-/// (limit + 1)` entries, and it takes at most `limit + 1` steps. None of it depends on how large the whole text is.
+/// The text so far and what the stack still prints are together the root's text. What was spent and what the stack still costs are together
+/// the root's cost. Both hold in every context of every shared node, if the items are those of a layout. So a printer never spends more
+/// than its limit: its text has at most `limit` bytes, its stack at most `8 * (limit + 1)` entries, and it takes at most `limit + 1` steps.
+/// None of these bounds depends on how large the whole text is.
 #[derive(Drop)]
 pub struct Printer<C: Copy> {
     stack: Vec<Part<C>>,
@@ -98,9 +98,9 @@ impl<C: Copy> Printer<C> {
         Ok(())
     }
 
-    /// Takes the next entry: an item's parts take its place, a byte text is written. It answers whether nothing is left.
+    /// Takes the next entry: an item is replaced by its parts, and a byte text is written. It answers whether nothing is left.
     ///
-    /// Errors: `TooLong` where the entry can't be paid for, `Memory`, and from then on the same refusal again.
+    /// Errors: `TooLong` where the entry can't be paid for, or `Memory`. From then on the same refusal is answered again.
     pub fn step<Y: Layout<Ctx = C>>(&mut self, y: &Y) -> Result<bool, Refusal>
         requires { All (Y.may_come y.now) (entries self.old) }
         ensures may_come { All (Y.may_come y.now) (entries self.new) }
@@ -172,7 +172,7 @@ impl<C: Copy> Printer<C> {
 
     /// Takes entries until nothing is left: the same as `step` until it answers true, but faster.
     ///
-    /// Errors: `TooLong` where an entry can't be paid for, `Memory`, and from then on the same refusal again.
+    /// Errors: `TooLong` where an entry can't be paid for, or `Memory`. From then on the same refusal is answered again.
     pub fn run<Y: Layout<Ctx = C>>(&mut self, y: &Y) -> Result<(), Refusal>
         requires { All (Y.may_come y.now) (entries self.old) }
         ensures may_come { All (Y.may_come y.now) (entries self.new) }

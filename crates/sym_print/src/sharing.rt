@@ -1,4 +1,4 @@
-// Which nodes are parts of items more than once in one form, as far as the items of a dear text were opened.
+// Which nodes are parts of items more than once in one form, as far as the items of a costly text were opened.
 #![tactic(auto)]
 
 use crate::layout::{Item, Part};
@@ -7,13 +7,13 @@ use std::alloc::Global;
 /// What is known of a node: in which forms it was found as a part, and in which forms its own parts were looked at.
 #[derive(Clone, Copy)]
 struct Sight {
-    /// A bit for each form in which it was found.
+    /// A bit for each form in which the node was found.
     found: u32,
-    /// A bit for each form in which its parts were looked at.
+    /// A bit for each form in which the node's parts were looked at.
     opened: u32,
-    /// Whether it was found twice in one form. A node that comes in too many contexts isn't taken for shared.
+    /// Whether the node was found twice in one form. A node that comes in too many contexts isn't taken for shared.
     is_shared: bool,
-    /// Whether it comes in more contexts than are noted.
+    /// Whether the node comes in more contexts than are noted.
     is_crowded: bool,
 }
 
@@ -29,8 +29,8 @@ fn bit_of(form: u32) -> u32 {
     1 << (form % 32)
 }
 
-/// Counts a node that is found as a part in this form. In a form in which it is found once it comes as often as the item of which it is a
-/// part.
+/// Counts a node that is found as a part in this form. A node that is found once in a form comes in it as often as the item that it is a
+/// part of.
 fn found_again(sight: Sight, form: u32) -> Sight {
     let is_again = sight.found & bit_of(form) != 0;
     Sight {
@@ -41,7 +41,7 @@ fn found_again(sight: Sight, form: u32) -> Sight {
 }
 
 impl Sharing {
-    /// No node. It takes no memory.
+    /// A list without nodes. Making it takes no memory.
     pub(crate) fn idle(alloc: Global) -> Sharing {
         Sharing {
             sights: Vec::new(alloc),
@@ -70,8 +70,8 @@ impl Sharing {
         }
     }
 
-    /// Whether the parts of a node in a form were looked at. They are the same nodes each time. Where they depend on a
-    /// context, the node itself comes in as many contexts as they do.
+    /// Whether the parts of a node in a form were looked at. The parts are the same nodes each time. Where they depend on a context, the
+    /// node itself comes in as many contexts as they do.
     #[inline(always)]
     pub(crate) fn knows(&self, node: u32, form: u32) -> bool {
         match self.sights.get(node as usize) {
@@ -91,7 +91,7 @@ impl Sharing {
         }
     }
 
-    /// Looks at the parts of an item. Parts of one node in two forms, such as left and right of a name, are found once each.
+    /// Looks at the parts of an item. If two parts are one node in two forms, such as left and right of a name, each form is counted once.
     pub(crate) fn look<C: Copy>(&mut self, item: &Item<C>, parts: &[Part<C>]) {
         self.reach(item.node);
         if let Some(sight) = self.sights.get_mut(item.node as usize) {
@@ -110,7 +110,8 @@ impl Sharing {
         }
     }
 
-    /// Makes the list reach to a node. Where there is no memory nothing is known of the node.
+    /// Makes the list long enough for a node. Where there is no memory, nothing is known of the
+    /// node.
     fn reach(&mut self, node: u32) {
         let unseen = Sight {
             found: 0,

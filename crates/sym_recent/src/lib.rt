@@ -1,4 +1,4 @@
-//! A demangler that keeps texts of recent symbols, and answers these again without demangling.
+//! A demangler that keeps the texts of recent symbols, and gives them again without demangling.
 #![tactic(auto)]
 
 mod marks;

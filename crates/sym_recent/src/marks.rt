@@ -37,7 +37,8 @@ fn mixed_short(symbol: &[u8], number: u64) -> u64
     mixed(mixed(number, front), back)
 }
 
-/// A number into which all bytes of a symbol of a step or more are mixed, some of the last twice.
+/// A number into which all bytes of a symbol of a step or more are mixed, some of the last ones
+/// twice.
 #[inline(always)]
 fn mixed_long(symbol: &[u8], number: u64) -> u64
     requires { 32 ≤ length symbol.now }

@@ -19,8 +19,8 @@ pub trait Alike: Demangler {
 }
 
 /// A demangler that answers what another one does, and keeps texts that it appended: at most
-/// 1,179,648 bytes of symbols and texts. Any symbol, even a hostile one, costs at most a few passes
-/// over its bytes and its text more than with the other demangler.
+/// 1,179,648 bytes of symbols and texts. Compared with the other demangler, any symbol, even a
+/// hostile one, costs at most a few more passes over its bytes and its text.
 #[derive(Clone, Copy, Drop)]
 pub struct Recent<D> {
     pub demangler: D,

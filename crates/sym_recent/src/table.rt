@@ -24,7 +24,7 @@ const LONGEST: usize = 65_536;
 /// once it comes again.
 const PATIENCE: u32 = 64;
 
-/// After so many new symbols in a row, one in this many symbols is looked at.
+/// After `PATIENCE` new symbols in a row, one in this many symbols is looked at.
 const FEW: u32 = 8;
 
 /// The places are made after this many symbols, since making them costs as much as twenty texts.
@@ -75,7 +75,7 @@ impl Table {
         }
     }
 
-    /// Whether the next symbol is looked at. If it isn't, it is counted as a new one.
+    /// Whether the next symbol is looked at. A symbol that isn't looked at is counted as new.
     #[inline(always)]
     pub(crate) fn looks(&mut self) -> bool
         ensures keeps { (answer : Kind-type → List ℕ → Result (List ℕ) Refusal-type) → Keeps answer self.old → Keeps answer self.new }
@@ -88,7 +88,7 @@ impl Table {
         false
     }
 
-    /// The text that is kept for a symbol with a mark, if one is.
+    /// The text that is kept for a symbol with a mark, if there is one.
     #[inline(always)]
     pub(crate) fn text_of(&self, mark: u32, kind: Kind, symbol: &[u8]) -> Option<&[u8]>
         ensures { (answer : Kind-type → List ℕ → Result (List ℕ) Refusal-type) → Keeps answer self.now → IfSome result (λ text. answer kind symbol.now ≡ Ok text.now) }
@@ -118,7 +118,7 @@ impl Table {
         self.news = 0;
     }
 
-    /// Takes a symbol that isn't kept, with its text. It is kept where it is likely to come again and there is memory for it.
+    /// Takes a symbol that isn't kept, with its text. The symbol is kept if it is likely to come again and there is memory for it.
     #[inline(always)]
     pub(crate) fn take(&mut self, mark: u32, kind: Kind, symbol: &[u8], text: &[u8])
         ensures keeps { (answer : Kind-type → List ℕ → Result (List ℕ) Refusal-type) → Keeps answer self.old → answer kind symbol.now ≡ Ok text.now → Keeps answer self.new }

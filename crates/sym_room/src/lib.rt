@@ -1,5 +1,5 @@
-//! Lists whose room is bounded by what they hold. Of `push` and `reserve`, std says only that the
-//! room doesn't shrink; of `reserve_exact` it says what the room becomes. So each list here grows
+//! Lists whose room is bounded by what they hold. For `push` and `reserve`, std says only that the
+//! room doesn't shrink; for `reserve_exact` it says what the room becomes. So each list here grows
 //! by `reserve_exact`.
 #![tactic(auto)]
 
@@ -11,11 +11,12 @@ use std::alloc::AllocError;
 /// The room that a list gets first.
 const LEAST: usize = 8;
 
-/// Makes room for `more` things after those of the list. A list that grows at least doubles, so that n things cost O(n) moves.
+/// Makes room for `more` things after those of the list. A list that grows gets room for at least twice the things that it has, so that n
+/// things cost O(n) moves.
 ///
 /// # Errors
 ///
-/// `AllocError` where the list had no room for them and got none; it is unchanged then.
+/// `AllocError` where the list had no room for them and got none; the list is then unchanged.
 #[inline(always)]
 pub fn make_room<T>(list: &mut Vec<T>, more: usize) -> Result<(), AllocError>
     ensures items { list.new.items ≡ list.old.items }
@@ -36,7 +37,7 @@ pub fn make_room<T>(list: &mut Vec<T>, more: usize) -> Result<(), AllocError>
 ///
 /// # Errors
 ///
-/// `AllocError` where the list had no room for it and got none; it is unchanged then.
+/// `AllocError` where the list had no room for it and got none; the list is then unchanged.
 #[inline(always)]
 pub fn push_within<T: Drop>(list: &mut Vec<T>, value: T) -> Result<(), AllocError>
     ensures items { list.new.items ≡ (if is_ok result then list.old.items ++ value ∷ [] else list.old.items) }
@@ -53,9 +54,9 @@ pub fn push_within<T: Drop>(list: &mut Vec<T>, value: T) -> Result<(), AllocErro
 ///
 /// # Errors
 ///
-/// `AllocError` where the list had no room for them and got none; it is unchanged then.
-// std's `extend_from_slice` doesn't say that it leaves sufficient room as it is. So the room is
-// compared afterwards: a test that never fails.
+/// `AllocError` where the list had no room for them and got none; the list is then unchanged.
+// std doesn't say that `extend_from_slice` keeps the room as it is where the room suffices. So the
+// room is compared afterwards: a test that never fails.
 pub fn append_within(list: &mut Vec<u8>, bytes: &[u8]) -> Result<(), AllocError>
     ensures ok { OnOk result (list.new.items ≡ list.old.items ++ bytes.now) }
     ensures grown { OnOk result (IsGrown (vec_capacity list.old) (vec_capacity list.new) (vec_len list.old + length bytes.now)) }

@@ -1,4 +1,4 @@
--- What proofs use of the libraries and of definitions, in one place to import it from.
+-- The library lemmas and definitions that this crate's proofs use, exported from one place.
 pub use Rattle.std.proofs.Common.{Bool, Err, IfSome, List, None, Ok, OnOk, Option, Result, Some, [], ap, append_assoc, ap₂, arith, cond, drop, eq-eqb, false, get_or, if◌then◌else◌, inl, inr, is_some, length, length-append, map, refl, reverse, set, slice_get, subst, suc, sym, take, true, zero, ℕ, ◌&&◌, ◌*◌, ◌++◌, ◌+◌, ◌-◌, ◌<◌, ◌∙◌, ◌∷◌, ◌≡◌, ◌≤◌, ◌⊎◌}
 pub use Rattle.std.proofs.lemmas.Bool.{and_from, and_parts, cases_eq, cases_lt, cases_order, false≢true, le-ltb, lt-ltb, ne_eqb, or_cases, or_left, or_right, true≢false}
 pub use Rattle.std.proofs.lemmas.List.{append-nil, append_cancel_left, drop-append-le, drop_all, drop_at, drop_more, length-drop, length-reverse, length-set, length-take, length-take-le, reverse-append, take-append-drop, take-append-le, take-set-le, take-take, take_all, take_at}

@@ -84,7 +84,7 @@ ends g lawful s bytes (suc n) = λ steps at stack rows left h. one_step g lawful
 pub decided : (g : Table) (lawful : IsLawful g) (s : List ℕ) → AreBytes s → Decided g s
 decided g lawful s bytes = ends g lawful s bytes (14 + 18 * length s) 0 0 (Symbol (Kind 0) ∷ []) [] (omega arith) (first_parse g lawful true s)
 
--- a shorter front than one that begins a well shaped symbol begins one too
+-- if a front begins a well shaped symbol, so does each shorter front
 shorter_begins : (g : Table) (s : List ℕ) (m n : ℕ) → m ≤ n → BeginsWellShaped g (take n s) → BeginsWellShaped g (take m s)
 shorter_begins g s m n le whole =
     let u = take n s in

@@ -41,7 +41,7 @@ fed g bytes piece steps at stack rows h = record {
   counted = h.counted;
 }
 
--- the reader is told the end
+-- the reader is given the end
 pub told : (g : Table) (bytes : List ℕ) (steps at : ℕ) (stack : List Entry) (rows : List Row) → IsParse g false bytes steps at stack rows → IsParse g true bytes steps at stack rows
 told g bytes steps at stack rows h = record {
   within = h.within;

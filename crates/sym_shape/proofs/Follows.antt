@@ -29,6 +29,6 @@ follow_at g lawful x xs f (b ∷ w) known followed h e =
     let first = forest_first g lawful xs f b w known h e in
     followed.0 b first.0 first.1
 
--- what the symbols after a symbol spell may follow it
+-- the bytes spelled by the symbols after a symbol may follow that symbol
 pub forest_follows : (g : Table) (lawful : IsLawful g) (x : Sym) (xs : List Sym) (f : Forest) → AreSymbols g xs → IsFollowed g (x ∷ xs) → AreTrees g xs f → MayFollow g x (spell_all f)
 forest_follows g lawful x xs f known followed h = follow_at g lawful x xs f (spell_all f) known followed h refl

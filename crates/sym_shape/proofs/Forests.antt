@@ -16,7 +16,7 @@ AreTrees-joined g (x ∷ xs) ys (grown t a) b p q = (p.0, AreTrees-joined g xs y
 AreTrees-joined g [] ys (grown t a) b p q = absurd p
 AreTrees-joined g (x ∷ xs) ys nothing b p q = absurd p
 
--- as many trees as symbols
+-- a forest has as many trees as there are symbols
 pub count_trees : (g : Table) (xs : List Sym) (f : Forest) → AreTrees g xs f → tree_count f ≡ length xs
 count_trees g [] nothing p = refl
 count_trees g (x ∷ xs) (grown t f) p = omega (arith, count_trees g xs f p.1)

@@ -1,7 +1,7 @@
 -- Symbols that are cut off or changed.
 use Rattle.sym_shape.proofs.Basics.{◌≡◌, ℕ, ◌+◌, ◌<◌, ◌≤◌, inl, inr, List, length, take, drop, set, sym, subst, arith, cases_lt, take-append-drop, take-take, take_all, length-take, take-set-le, length-set, Table, IsWellShaped, BeginsWellShaped, IsFirstBad, IsMalformed}
 
--- each front of a well shaped symbol begins one
+-- each front of a well shaped symbol is the beginning of a well shaped symbol
 pub front_begins : (g : Table) (s : List ℕ) (n : ℕ) → IsWellShaped g s → BeginsWellShaped g (take n s)
 front_begins g s n whole = (drop n s, subst (λ u. IsWellShaped g u) (sym (take-append-drop n s)) whole)
 

@@ -40,7 +40,7 @@ place_within symbols place x there = elim (cases_lt place (length symbols)) [
   | inr past ↦ absurd (omega (arith, ap length (sym (ap up_to_end (drop_all place symbols past)) ∙ there.left)))
 ]
 
--- how many symbols of its rule follow the one at a place
+-- how many symbols follow the one at a place within its rule
 pub after_at : (symbols : List Sym) (place : ℕ) → get_or (counts_after symbols) place 0 ≡ length (listed_in symbols (place + 1))
 after_at [] place = ap (λ xs. length (up_to_end xs)) (sym (drop_all {X = Sym} (place + 1) [] (omega arith)))
 after_at (x ∷ xs) zero = refl

@@ -2,7 +2,7 @@
 use Rattle.std.proofs.Common.{◌≡◌, Bool, true, false, ◌⊎◌, inl, inr, List, [], ◌∷◌, ◌++◌, refl, ap, sym, ◌∙◌, Option, Some}
 pub use Rattle.sym_core.proofs.Lists.{compared, split_nil}
 
--- the first element of joined lists is that of the second list if the first one is empty, else that of the first list
+-- the first element of joined lists is that of the second list if the first list is empty, else that of the first list
 pub split_cons : {X : Type 0} (xs ys : List X) (b : X) (w : List X) → xs ++ ys ≡ b ∷ w → ((xs ≡ []) × (ys ≡ b ∷ w)) ⊎ ((v : List X) × (xs ≡ b ∷ v) × (w ≡ v ++ ys))
 split_cons [] ys b w e = inl (refl, e)
 split_cons (x ∷ xs) ys b w e = inr (xs, cc, cc)

@@ -189,7 +189,7 @@ only_empty g lawful ended k xs (grown (token t) f) q w known none agrees p e = a
 only_empty g lawful ended k xs (grown (fixed c) f) q w known none agrees p e = absurd p.0
 only_empty g lawful ended k xs nothing q w known none agrees p e = absurd p
 
--- an empty kind is left
+-- the reader leaves a kind that is empty
 pub takes_nothing : (g : Table) (n : ℕ) (lawful : IsLawful g) (ended : Bool) (p q : List ℕ) (k : ℕ) (es : List Entry) (rows : List Row) → g.may_be_empty k ≡ true → TakesNone g k ended q → IsReading g n ended p q (Symbol (Kind k) ∷ es) rows → IsReading g (n + 1) ended p q es rows
 takes_nothing g n lawful ended p q k es rows bare none r = record {
   known = r.known.1;

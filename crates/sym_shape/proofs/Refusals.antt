@@ -88,7 +88,7 @@ refused_behind g lawful ended p b q rows r = refused_here g lawful ended p (b �
     none : (w : List ℕ) → Agrees ended (b ∷ q) w → Spell g [] w → ⊥
     none w agrees spelled = none_of agrees.0 spelled.0 spelled.1 (spelled.2 ∙ agrees.1)
 
--- there is another byte than the expected one, or the end
+-- the next byte isn't the expected one, or the bytes have ended
 pub refused_byte : {n : ℕ} (g : Table) (lawful : IsLawful g) (ended : Bool) (p : List ℕ) (c : ℕ) (q : List ℕ) (es : List Entry) (rows : List Row) → IsReading g n ended p q (Symbol (Byte c) ∷ es) rows → (q ≡ [] → ended ≡ true) → ((r : List ℕ) → q ≡ c ∷ r → ⊥) → IsMalformed g (p ++ q) (length p)
 refused_byte g lawful ended p c q es rows r told other = refused_here g lawful ended p q (Symbol (Byte c) ∷ es) rows r (λ w agrees spelled. none q other told w agrees spelled.0 spelled.1 spelled.2) told
   where
@@ -107,7 +107,7 @@ refused_byte g lawful ended p c q es rows r told other = refused_here g lawful e
         let same : b ≡ c = cc (byte.1) in
         wrong u (ap (λ d. d ∷ u) same)
 
--- no rule of the kind may be taken, and it isn't empty
+-- no rule of the kind may be taken, and the kind isn't empty
 pub refused_kind : {n : ℕ} (g : Table) (lawful : IsLawful g) (ended : Bool) (p : List ℕ) (k : ℕ) (q : List ℕ) (es : List Entry) (rows : List Row) → IsReading g n ended p q (Symbol (Kind k) ∷ es) rows → TakesNone g k ended q → g.may_be_empty k ≡ false → IsMalformed g (p ++ q) (length p)
 refused_kind g lawful ended p k q es rows r none full =
     refused_here g lawful ended p q (Symbol (Kind k) ∷ es) rows r

@@ -6,7 +6,7 @@ use Rattle.sym_shape.proofs.Tokens.{settled, token_filled}
 use Rattle.sym_shape.proofs.Moves.{closes, takes_byte, takes_token, takes_nothing, takes_rule, started, read_whole, taken_by, token_row, IsSettled, length-closed, closed_at, beginning}
 use Rattle.sym_shape.proofs.Refusals.{begins_here, token_front, BeginsToken, refused_behind, refused_byte, refused_kind, refused_token, IsNoToken}
 
--- the next bytes of a list, c, and the rest
+-- the next bytes `c` of a list, and the rest
 pub record Cut (bytes : List ℕ) (at : ℕ) (c rest : List ℕ) : Type 0 where
   pub within : at + length c ≤ length bytes
   pub front : take (at + length c) bytes ≡ take at bytes ++ c
@@ -32,7 +32,7 @@ rules_pushed [] (Symbol x) es = omega arith
 rules_pushed [] (Close i) es = omega arith
 rules_pushed (x ∷ xs) close es = rules_pushed xs close es
 
--- counts: a step that removes an entry
+-- the counts after a step that removes an entry
 drop_entry : (g : Table) (steps at : ℕ) (e : Entry) (es : List Entry) (rows : ℕ) → (c : IsCounted g steps at (e ∷ es) rows) → c.chains ≡ 0 → IsCounted g (steps + 1) at es rows
 drop_entry g steps at e es rows c none = record {
   chains = 0;
@@ -338,7 +338,7 @@ takes_none g k ended bytes at known none = at_rest (drop at bytes) refl
         let same : get_or bytes at 0 ≡ b = cc in
         subst (λ c. g.rule k c ≡ None) same (none lt)
 
--- counts at the end of a step
+-- the counts at the end of a step
 pub at_most_steps : (g : Table) (steps at : ℕ) (es : List Entry) (rows : ℕ) → IsCounted g steps at es rows → steps ≤ 13 + 18 * at
 at_most_steps g steps at es rows c = omega (arith, c.spent, c.few)
 
@@ -395,7 +395,7 @@ pub all_begins : (g : Table) (lawful : IsLawful g) (ended : Bool) (bytes : List 
 all_begins g lawful ended bytes steps at stack rows h le =
     subst (λ u. BeginsWellShaped g u) (take_all at bytes le) (begins_here g lawful ended (take at bytes) (drop at bytes) stack rows h.reading)
 
--- if all bytes after those that were read begin a token, the bytes begin a well shaped symbol
+-- if all known bytes after those read begin a token, all known bytes together begin a well shaped symbol
 pub token_waits : (g : Table) (lawful : IsLawful g) (ended : Bool) (bytes : List ℕ) (steps at : ℕ) (x : Sym) (stack : List Entry) (rows : List Row) (c rest : List ℕ) → IsParse g ended bytes steps at (Symbol x ∷ stack) rows → BeginsToken g x c → drop at bytes ≡ c ++ rest → length bytes ≤ at + length c → BeginsWellShaped g bytes
 token_waits g lawful ended bytes steps at x stack rows c rest h begun split le =
     let piece = cut bytes at c rest h.within split in

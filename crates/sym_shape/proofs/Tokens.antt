@@ -22,7 +22,8 @@ token_first g Name t b w h e = name_first g.names t b w h e
 token_first g (Number kind) t b w h e = number_first kind t b w h e
 token_first g (Byte c) t b w h e = absurd h
 
--- If one token begins another, the byte after it may not follow it, and a token exists that has just that byte more.
+-- If one token begins another, the longer token's next byte may not follow the shorter one, and the shorter one with
+-- just that byte added is a token, too.
 pub extended : (g : Table) (x : Sym) (s t : Token) (b : ℕ) (m : List ℕ) → IsToken g.names x s → IsToken g.names x t → bytes_of t ≡ bytes_of s ++ b ∷ m → (may_follow g x b ≡ false) × ((u : Token) × IsToken g.names x u × (bytes_of u ≡ bytes_of s ++ b ∷ []))
 extended g (Kind k) s t b m p q e = absurd p
 extended g Name s t b m p q e =

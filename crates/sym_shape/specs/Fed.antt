@@ -10,9 +10,9 @@ use Rattle.sym_shape.specs.Tree.{IsMalformed}
 use Rattle.sym_shape.specs.Reader.{IsParsing, AreFew, to_do}
 use Rattle.sym_shape.specs.Room.{Room}
 
--- the bytes fed so far, whether the end was given, whether an answer was given since then, the refusal if there was one, the
--- steps taken, how many rows they made, how many rules are being read around another one, and how many bytes, rows and rules
--- there is room for
+-- what was fed: the bytes so far, whether the end was given, whether an answer was given since then, and the refusal if
+-- there was one; what reading took: the steps, how many rows they made, how many rules are being read around another one,
+-- and how many bytes, rows and rules there is room for
 pub record Fed : Type 0 where
   pub bytes : List ℕ
   pub ended : Bool
@@ -50,7 +50,8 @@ abbrev pub is_answer : Result Bool Refusal → Bool
 is_answer (Ok more) = more
 is_answer (Err refusal) = true
 
--- this is the first bad byte: of these bytes, once the end is given; before that, whatever bytes follow
+-- once the end is given, this is the first bad byte of these bytes; before that, it is the first bad byte whatever
+-- follows these bytes
 abbrev pub IsMalformedSoFar : Table → Bool → List ℕ → ℕ → Type 0
 IsMalformedSoFar g true bytes at = IsMalformed g bytes at
 IsMalformedSoFar g false bytes at = (more : List ℕ) → IsMalformed g (bytes ++ more) at

@@ -1,4 +1,4 @@
--- The laws of a grammar, each of one rule at a time.
+-- The laws of a grammar, each about one rule.
 use Rattle.sym_shape.specs.declared.rule.TheConstants.{TOKEN}
 use Rattle.std.specs.Prelude.{◌≡◌, ℕ, ◌<◌, ◌≤◌, List, [], ◌∷◌, length, Bool, true, false, ◌&&◌, ◌||◌, ◌==◌, Some, is_some, ⊤, ◌⊎◌}
 use Rattle.sym_core.specs.Number.{is_decimal_digit}
@@ -28,12 +28,12 @@ may_follow g Name b = ends_name g.names b
 may_follow g (Number kind) b = ends_number kind b
 may_follow g (Byte c) b = true
 
--- these symbols may begin with the byte, or they may all be empty and it may follow their kind
+-- these symbols may begin with the byte, or they may all be empty and the byte may follow their kind
 abbrev pub comes_next : Table → ℕ → List Sym → ℕ → Bool
 comes_next g k [] b = g.after k b
 comes_next g k (x ∷ xs) b = begins g x b || (can_be_empty g x && comes_next g k xs b)
 
--- what comes next in a rule of kind k may follow each of its symbols
+-- each symbol of a rule of kind k may be followed by the bytes that may come after it there
 abbrev pub KeepsAfter : Table → ℕ → List Sym → Type 0
 KeepsAfter g k [] = ⊤
 KeepsAfter g k (x ∷ xs) = ((b : ℕ) → b < 256 → comes_next g k xs b ≡ true → may_follow g x b ≡ true) × KeepsAfter g k xs
@@ -56,7 +56,8 @@ rank_of g Name = 0
 rank_of g (Number kind) = 0
 rank_of g (Byte c) = 0
 
--- a chain of kind k begins with a symbol that is never empty, of a smaller rank; it is taken at each byte that begins this symbol
+-- a chain of kind k begins with a symbol of a smaller rank that is never empty; the chain is taken at each byte that begins this
+-- symbol
 abbrev pub IsChain : Table → ℕ → Rule → List Sym → Type 0
 IsChain g k rule [] = ⊥
 IsChain g k rule (x ∷ xs) =

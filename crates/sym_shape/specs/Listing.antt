@@ -23,7 +23,7 @@ up_to_end (Number kind ∷ xs) = Number kind ∷ up_to_end xs
 abbrev pub listed_in : List Sym → ℕ → List Sym
 listed_in symbols place = up_to_end (drop place symbols)
 
--- how many symbols of its rule follow each one of a list
+-- for each symbol of a list, how many symbols of its rule follow it
 abbrev pub counts_after : List Sym → List ℕ
 counts_after [] = []
 counts_after (x ∷ xs) = length (up_to_end xs) ∷ counts_after xs

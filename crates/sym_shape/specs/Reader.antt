@@ -64,7 +64,8 @@ pub record IsAtRest (listed : ℕ → List Sym) (g : Table) (ended : Bool) (byte
 abbrev pub MakesRow : Parse → Parse → Type 0
 MakesRow old new = length new.rows.items ≤ length old.rows.items + 1
 
--- the result of a step: a move, which is counted; it waits for bytes, or all is read; or a refusal
+-- the result of a step: a move, which is counted; no move, since the reader waits for bytes or all is read; or a
+-- refusal
 abbrev pub IsStep : (ℕ → List Sym) → Table → Bool → List ℕ → Parse → Parse → Result Bool Refusal → Type 0
 IsStep listed g ended bytes old new (Ok false) = IsParse g ended bytes (old.steps + 1) new.at (to_do listed new) new.rows.items × (new.steps ≡ old.steps) × MakesRow old new
 IsStep listed g ended bytes old new (Ok true) = IsAtRest listed g ended bytes old new
@@ -84,7 +85,7 @@ IsAdvance listed g ended bytes old new (Err (BadReference at)) = ⊥
 IsAdvance listed g ended bytes old new (Err (BadValue at)) = ⊥
 IsAdvance listed g ended bytes old new (Err TooLong) = ⊥
 
--- the bytes aren't well shaped, and the place is that of the first bad one; or memory ran out
+-- the bytes aren't well shaped, and the place is that of the first bad byte; or memory ran out
 abbrev pub IsMalformedOrMemory : Table → List ℕ → Refusal → Type 0
 IsMalformedOrMemory g bytes (Malformed at) = IsMalformed g bytes at
 IsMalformedOrMemory g bytes Memory = ⊤
@@ -107,7 +108,7 @@ pub record AreSpent (bytes : List ℕ) (old new : Parse) : Type 0 where
   pub made : MakeRows old new
   pub few : AreFew new.steps (length new.rows.items) (length bytes)
 
--- at least one move, no move, or no memory for one; the moves' count and place are kept apart from the parse
+-- at least one move, no move, or no memory for a move; the moves' count and place are kept apart from the parse
 abbrev pub HasAdvanced : (ℕ → List Sym) → Table → Bool → List ℕ → Progress → Parse → Parse → Result (Option Progress) Refusal → Type 0
 HasAdvanced listed g ended bytes progress old new (Ok (Some further)) = IsParse g ended bytes further.steps further.at (to_do listed new) new.rows.items × (progress.steps < further.steps) × (length new.rows.items + progress.steps ≤ length old.rows.items + further.steps)
 HasAdvanced listed g ended bytes progress old new (Ok None) = new ≡ old
@@ -117,7 +118,7 @@ HasAdvanced listed g ended bytes progress old new (Err (BadReference at)) = ⊥
 HasAdvanced listed g ended bytes progress old new (Err (BadValue at)) = ⊥
 HasAdvanced listed g ended bytes progress old new (Err TooLong) = ⊥
 
--- some moves, or no memory for one
+-- some moves, or no memory for a move
 abbrev pub IsBatch : (ℕ → List Sym) → Table → Bool → List ℕ → Parse → Parse → Result (Unit {0}) Refusal → Type 0
 IsBatch listed g ended bytes old new (Ok done) = IsParsing listed g ended bytes new × MakeRows old new
 IsBatch listed g ended bytes old new (Err Memory) = AreSpent bytes old new

@@ -26,7 +26,7 @@ abbrev pub entries_of : List Sym → List Entry
 entries_of [] = []
 entries_of (x ∷ xs) = Symbol x ∷ entries_of xs
 
--- the rows with row i ended at a place, before a row
+-- the rows with row i ended: its bytes end at `at`, and its subtree before row `end`
 abbrev pub closed : List Row → ℕ → ℕ → ℕ → List Row
 closed [] i at end = []
 closed (row ∷ rows) zero at end = record row { to = at; end = end } ∷ rows
@@ -36,7 +36,7 @@ closed (row ∷ rows) (suc i) at end = row ∷ closed rows i at end
 abbrev pub open_row : Rule → (after at to end : ℕ) → Row
 open_row rule after at to end = record { rule = rule.number; after = after; from = at; to = to; end = end }
 
--- after the byte that a rule takes, or at the same place
+-- the place after the byte that a rule takes, or the same place if it takes none
 abbrev pub place_behind : Rule → ℕ → ℕ
 place_behind rule at = if rule.eats then at + 1 else at
 
@@ -48,7 +48,7 @@ rule_stack stack number rule = entries_of (symbols_of rule) ++ Close number ∷ 
 abbrev pub place_row : (after : ℕ) → TokenPlace → (number : ℕ) → Row
 place_row after place number = record { rule = TOKEN; after = after; from = place.from; to = place.to; end = number + 1 }
 
--- the rows of a rule at a place whose only symbol is a token, and of the token
+-- the row of a rule at a place whose only symbol is a token, and the row of that token
 abbrev pub lone_rows : Rule → (after at : ℕ) → TokenPlace → (number : ℕ) → List Row
 lone_rows rule after at place number = open_row rule after at place.end (number + 2) ∷ place_row 0 place (number + 1) ∷ []
 
@@ -89,7 +89,7 @@ abbrev pub first_of : Table → List Sym → ℕ → Bool
 first_of g [] b = false
 first_of g (x ∷ xs) b = begins g x b || (can_be_empty g x && first_of g xs b)
 
--- what comes next may follow each symbol
+-- each symbol may be followed by the first bytes of the symbols after it
 abbrev pub IsFollowed : Table → List Sym → Type 0
 IsFollowed g [] = ⊤
 IsFollowed g (x ∷ xs) = ((b : ℕ) → b < 256 → first_of g xs b ≡ true → may_follow g x b ≡ true) × IsFollowed g xs
@@ -113,7 +113,7 @@ pub record IsByteAt (bytes : List ℕ) (at byte : ℕ) : Type 0 where
   pub is : get_or bytes at 0 ≡ byte
   pub fits : byte < 256
 
--- the byte at the place is known, or the end is
+-- the byte at the place is known, or the end of the bytes is
 abbrev pub IsKnown : Bool → List ℕ → ℕ → Type 0
 IsKnown ended bytes at = (at < length bytes) ⊎ (ended ≡ true)
 
@@ -139,7 +139,8 @@ StandsOn g (suc n) [] = ⊥
 StandsOn g (suc n) (Close i ∷ es) = ⊥
 StandsOn g (suc n) (Symbol x ∷ es) = (can_be_empty g x ≡ false) × (rank_of g x + suc n ≤ 3)
 
--- bounds by the bytes read: on the steps taken, the entries left and the rows; each rule that is being read has made a row
+-- bounds, by the bytes read, on the steps taken, the entries left and the rows; each rule that is being read has made a
+-- row
 pub record IsCounted (g : Table) (steps at : ℕ) (es : List Entry) (rows : ℕ) : Type 0 where
   pub chains : ℕ
   pub few : chains ≤ 3

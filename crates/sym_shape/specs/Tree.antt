@@ -85,7 +85,8 @@ abbrev mutual
   row_count_all nothing = 0
   row_count_all (grown tree rest) = row_count tree + row_count_all rest
 
--- how many steps the reader takes for a tree: it begins each rule and ends it, at once where the rule has no symbols
+-- how many steps the reader takes for a tree: a rule is begun in one step and ended in another, or both in one where
+-- the rule has no symbols
 abbrev mutual
   pub read_steps : Tree → ℕ
   read_steps (branch rule taken nothing) = 1
@@ -103,7 +104,7 @@ abbrev pub tree_count : Forest → ℕ
 tree_count nothing = 0
 tree_count (grown tree rest) = 1 + tree_count rest
 
--- the rows of a tree that begins at a place and has n symbols after it in its rule; `number` is that of the first row
+-- the rows of a tree that begins at a place and has n symbols after it in its rule; `number` is the first row's number
 abbrev mutual
   pub rows_of : Tree → (after at number : ℕ) → List Row
   rows_of (branch rule taken parts) after at number =

@@ -11,9 +11,9 @@ use sym_core::NameClass;
 
 /// A grammar that one byte of look-ahead decides.
 ///
-/// Kinds are the numbers below the table's `kinds`, and kind 0 is the start kind. A kind begins with the bytes at which `rule`
-/// answers one. Which bytes may follow a kind, how many chains may rest on one another from it, and how high its lowest tree is
-/// are members only of the table (`after`, `rank`, `height`): the laws speak of them, no code reads them.
+/// Kinds are the numbers below the table's `kinds`, and kind 0 is the start kind. A kind begins with the bytes at which `rule` answers a
+/// rule. Only the table says which bytes may follow a kind (`after`), how many chains may rest on one another from it (`rank`), and how
+/// high its lowest tree is (`height`): laws speak of these members, but no code reads them.
 pub trait Grammar {
     /// The grammar, which depends only on the type.
     ghost table: { Table };
@@ -38,7 +38,7 @@ pub trait Grammar {
     fn symbol(&self, place: u32) -> Option<Sym>
         ensures { MatchOption result (listed place ≡ []) (StandsAt listed place) };
 
-    /// How many symbols of its rule follow the one at a place.
+    /// How many symbols follow the one at a place within its rule.
     fn after(&self, place: u32) -> u8
         requires { (x : Sym) × StandsAt listed place x }
         ensures { result ≡ length (listed (place + 1)) };

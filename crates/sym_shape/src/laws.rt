@@ -25,19 +25,19 @@ pub fn one_bad_byte<G: Grammar>()
     ensures apart { (s : List ℕ) (at : ℕ) → IsWellShaped G.table s → IsMalformed G.table s at → ⊥ }
 {}
 
-/// A front of a well shaped symbol that isn't well shaped itself is only cut off: its first bad byte is at its length.
+/// If a front of a well shaped symbol isn't well shaped itself, it is only cut off: its first bad byte is at its length.
 pub fn front_is_cut_off<G: Grammar>()
     ensures first { (s : List ℕ) (n : ℕ) → IsWellShaped G.table s → IsFirstBad G.table (take n s) (length (take n s)) }
     ensures only { (s : List ℕ) (n at : ℕ) → IsWellShaped G.table s → IsFirstBad G.table (take n s) at → at ≡ length (take n s) }
 {}
 
-/// If one byte of a well shaped symbol is changed, the first bad byte isn't before it.
+/// If one byte of a well shaped symbol is changed, the first bad byte isn't before the changed one.
 pub fn change_is_found_behind<G: Grammar>()
     ensures { (s : List ℕ) (p byte at : ℕ) → p < length s → IsWellShaped G.table s → IsMalformed G.table (slice_set s p byte) at → p ≤ at }
 {}
 
-/// Where every tree of a table is one of this grammar, the table's symbols have the same rows here, and no first
-/// bad byte comes earlier.
+/// If every tree of a table is also a tree of this grammar, the table's symbols have the same rows by this grammar, and no first bad byte
+/// comes earlier.
 pub fn grown_keeps<G: Grammar>()
     ensures rows { (old : Table) (s : List ℕ) (rows : List Row) → GrowsInto old G.table → AreRowsOf old s rows → AreRowsOf G.table s rows }
     ensures same { (old : Table) (s : List ℕ) (rows others : List Row) → GrowsInto old G.table → AreRowsOf old s rows → AreRowsOf G.table s others → others ≡ rows }

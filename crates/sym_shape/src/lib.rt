@@ -1,8 +1,8 @@
 //! A pushdown parser for any LL(1) grammar over bytes.
 //!
-//! A grammar is a table of rules (`Grammar`). The reader takes a symbol's bytes whole (`read`) or in pieces (`Reader`), and
-//! answers a row for each rule, chain and token of the one tree that spells them (`Shape`), or their first bad byte. It keeps
-//! a list of the rules that are being read and never recurses; its steps and rows are bounded by the bytes.
+//! A grammar is a table of rules (`Grammar`). The reader takes a symbol's bytes whole (`read`) or in pieces (`Reader`). It answers a row
+//! for each rule, chain and token of the one tree that spells them (`Shape`), or their first bad byte. It keeps a list of the rules that
+//! are being read and never recurses; its steps and rows are bounded by the bytes.
 #![tactic(auto)]
 
 mod choosing;

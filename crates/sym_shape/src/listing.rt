@@ -17,7 +17,7 @@ const BLANK: u8 = b' ';
 pub const END: Sym = Sym::Byte(0);
 
 /// The symbols of rules in one list, after those of the start kind. Each rule has six places: its
-/// symbols, and then ends.
+/// symbols, and `END` in the places that are left.
 #[macro_export]
 macro_rules! symbols_listed {
     ($([$first:expr, $second:expr, $third:expr, $fourth:expr, $fifth:expr],)*) => {
@@ -44,7 +44,8 @@ pub fn letter_in(row: &[u8; 87], byte: u8) -> Option<u8>
     Some(letter)
 }
 
-/// The place of the first symbol of the rule with a number, in a list of six places a rule.
+/// The place of the first symbol of the rule with a number, in a list with six places for each
+/// rule.
 #[inline(always)]
 pub fn place_of(number: usize) -> usize
     requires { number ≤ 65535 }

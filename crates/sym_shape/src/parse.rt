@@ -137,7 +137,7 @@ fn take_rule(
     Ok(())
 }
 
-/// Puts the row of a token, with n symbols of its rule after it, after the others.
+/// Adds the row of a token that n symbols of its rule follow.
 fn push_token(rows: &mut Vec<Row>, after: u8, place: TokenPlace) -> Result<(), Refusal>
     requires few { length rows.old.items + 1 < 2 ^ 32 }
     requires own { place.from < 2 ^ 32 }
@@ -161,7 +161,7 @@ fn push_token(rows: &mut Vec<Row>, after: u8, place: TokenPlace) -> Result<(), R
     Ok(())
 }
 
-/// Puts the row of a rule whose only symbol is a token, and the token's, after the others.
+/// Adds the row of a rule whose only symbol is a token, and then the row of that token.
 fn push_rule_with_token(
     rows: &mut Vec<Row>,
     rule: &Rule,
@@ -220,7 +220,7 @@ fn may_go_on(at: usize, bytes: &[u8], ended: bool) -> bool
     !ended && at >= bytes.len()
 }
 
-/// The place of a token that a symbol expects, if the whole token is there.
+/// The place of a token that a symbol expects, if the whole token is present.
 #[inline(always)]
 fn complete_token<G: Grammar>(
     grammar: &G,
@@ -245,7 +245,7 @@ fn complete_token<G: Grammar>(
     }
 }
 
-/// The token that is a rule's only symbol, if it is one.
+/// The only symbol of a rule, if the rule has just one and that is a token.
 fn lone_token(rule: &Rule) -> Option<Sym>
     ensures { IfSome result (λ symbol. symbols_of rule.now ≡ symbol ∷ []) }
 {
@@ -274,7 +274,7 @@ fn rule_at<G: Grammar>(grammar: &G, kind: u16, bytes: &[u8], at: usize) -> Optio
 }
 
 impl Parse {
-    /// Before the first step: the start kind is to be read. It takes no memory.
+    /// Before the first step: the start kind is to be read. Making this state takes no memory.
     pub fn new(alloc: Global) -> Parse
         ensures todo { (listed : ℕ → List Sym) → to_do listed result ≡ entries_of (listed 0) }
         ensures rows { result.rows.items ≡ [] }
@@ -329,8 +329,8 @@ impl Parse {
         }
     }
 
-    /// Moves one after another, with the state at hand, up to one that needs more bytes or may be
-    /// refused. It refuses only for want of memory.
+    /// Makes moves, with the state at hand, up to one that needs more bytes or may be refused. It
+    /// refuses only for want of memory.
     fn run_batch<G: Grammar>(
         &mut self,
         grammar: &G,
@@ -370,7 +370,7 @@ impl Parse {
         Ok(())
     }
 
-    /// Ends the row of a rule whose symbols are all read, unless it is the lowest.
+    /// Ends the row of a rule whose symbols are all read, unless the frame is the lowest.
     #[inline(always)]
     fn leave_rule<G: Grammar>(
         &mut self,
@@ -397,7 +397,8 @@ impl Parse {
         }
     }
 
-    /// Takes the rule of a kind, with its token where that is its only symbol, or leaves the kind.
+    /// Takes the rule of a kind, with its token if that is the rule's only symbol, or leaves the
+    /// kind.
     #[inline(always)]
     fn enter_kind<G: Grammar>(
         &mut self,
@@ -664,7 +665,8 @@ impl Parse {
         Err(Refusal::Malformed { at: self.at as u32 })
     }
 
-    /// Reads a token, or says where it breaks off. One that ends with the bytes may still continue.
+    /// Reads a token, or says where it breaks off. A token that ends with the bytes may still
+    /// continue.
     fn read_token<G: Grammar>(
         &mut self,
         grammar: &G,

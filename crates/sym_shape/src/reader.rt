@@ -55,7 +55,8 @@ impl<G: Grammar> Reader<G> {
         })
     }
 
-    /// A reader that was fed nothing, with the lists of one that has finished: it takes no memory.
+    /// A reader that was fed nothing, with the lists of one that has finished. Making it takes no
+    /// memory.
     pub fn with_lists(grammar: &G, mut bytes: Vec<u8>, shape: Shape) -> Self
         ensures { result ≡ unfed (vec_capacity bytes) result.room }
     {
@@ -252,7 +253,7 @@ impl<G: Grammar> Reader<G> {
         }
     }
 
-    /// The bytes that were fed and their shape. It takes no memory.
+    /// The bytes that were fed and their shape. The call takes no memory.
     ///
     /// # Errors
     ///

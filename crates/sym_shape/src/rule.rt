@@ -27,9 +27,9 @@ pub struct Rule {
 pub struct Row {
     /// The number of the rule, or `TOKEN`.
     pub rule: u16,
-    /// How many symbols of the rule around it follow the one that it was read for.
+    /// How many symbols of the enclosing rule follow the one that this row was read for.
     pub after: u8,
-    /// Where the bytes of its subtree begin: in a name its own bytes, in a number its digits.
+    /// Where the bytes of its subtree begin: the own bytes of a name, or the digits of a number.
     pub from: u32,
     /// Where these bytes end.
     pub to: u32,

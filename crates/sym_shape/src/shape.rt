@@ -30,7 +30,7 @@ impl Model for Shape {
 }
 
 impl Shape {
-    /// The shape of no symbol yet, to read one into.
+    /// A shape of no symbol yet, into which one can be read.
     pub fn new(alloc: Global) -> Shape
         ensures rows { result.rows ≡ [] }
         ensures steps { result.steps ≡ 0 }
@@ -51,7 +51,7 @@ impl Shape {
         Shape { parse }
     }
 
-    /// The lists that it was read with.
+    /// The lists that the shape was read with.
     pub(crate) fn into_parse(self) -> Parse {
         self.parse
     }
@@ -75,14 +75,14 @@ impl Shape {
 ///
 /// # Errors
 ///
-/// `Malformed` at the first bad byte: the length of the longest front that begins some well shaped symbol. `Memory`.
+/// `Malformed` at the first bad byte, which is the length of the longest front that begins some well shaped symbol; or `Memory`.
 pub fn read<G: Grammar>(alloc: Global, grammar: &G, s: &[u8]) -> Result<Shape, Refusal>
     requires { FitsSymbol s.now }
     // If the symbol is read, a tree spells it, and the rows and the steps are those of that tree.
     ensures rows { IfOk result (λ shape. AreRowsOf G.table s.now shape.rows) }
     ensures steps { IfOk result (λ shape. AreStepsOf G.table s.now shape.steps) }
-    // If it isn't read, it isn't well shaped, and the place is that of its first bad byte, unless
-    // memory runs out.
+    // If the symbol isn't read, it isn't well shaped, and the place is that of its first bad byte,
+    // unless memory runs out.
     ensures refused { IfErr result (IsMalformedOrMemory G.table s.now) }
     ensures row_count { IfOk result (λ shape. length shape.rows ≤ 4 * length s.now + 4) }
     ensures step_count { IfOk result (λ shape. shape.steps ≤ 18 * length s.now + 14) }
@@ -100,7 +100,7 @@ pub fn read<G: Grammar>(alloc: Global, grammar: &G, s: &[u8]) -> Result<Shape, R
 ///
 /// # Errors
 ///
-/// Those of `read`. The shape is then that of no symbol.
+/// The refusals of `read`. The shape is then that of no symbol.
 pub fn read_into<G: Grammar>(shape: &mut Shape, grammar: &G, s: &[u8]) -> Result<(), Refusal>
     requires { FitsSymbol s.now }
     ensures rows { OnOk result (AreRowsOf G.table s.now shape.new.rows) }
@@ -109,7 +109,8 @@ pub fn read_into<G: Grammar>(shape: &mut Shape, grammar: &G, s: &[u8]) -> Result
     ensures no_rows { OnErr result (shape.new.rows ≡ []) }
     ensures no_steps { OnErr result (shape.new.steps ≡ 0) }
     ensures few { AreFew shape.new.steps (length shape.new.rows) (length s.now) }
-    // Refused or not, its lists get room for no more than a symbol of these bytes may need.
+    // Whether or not the symbol is refused, the shape's lists get room for no more than a symbol of
+    // these bytes may need.
     ensures bounded { StaysWithin (length s.now) shape.old.room shape.new.room }
 {
     shape.parse.restart();

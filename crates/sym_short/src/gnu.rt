@@ -1,48 +1,47 @@
 // What spells texts as GNU's demangler does.
 ghost use Rattle.gnu_texts.specs.Spelling.{gnu_text};
+ghost use Rattle.sym_short.specs.Rewriting.{cpp_rewritten};
 
+use crate::cpp::rewrites;
 use crate::rewriting::Rewrites;
 use gnu_texts::append_spelled;
 use std::alloc::{AllocError, Global};
+use sym_filter::Kind;
 
-/// Spells texts as GNU's demangler does.
+/// Spells texts of C++ symbols as GNU's demangler does.
 #[derive(Clone, Copy, Drop)]
-pub struct Gnu;
-
-/// A text as it is spelled.
-#[derive(Drop)]
-pub struct GnuLists {
-    text: Vec<u8>,
+pub struct Gnu {
+    /// Whether legacy Rust names are read as paths, whose texts stay as they are.
+    pub reads_paths: bool,
 }
 
 impl Rewrites for Gnu {
-    type Lists = GnuLists;
+    type Lists = Vec<u8>;
 
-    ghost rewritten = { λ gnu text. gnu_text text };
+    ghost rewritten = { λ gnu. cpp_rewritten gnu_text gnu.reads_paths };
 
-    fn lists(alloc: Global) -> GnuLists {
-        GnuLists {
-            text: Vec::new(alloc),
-        }
-    }
-
-    fn may_rewrite(&self, _text: &[u8]) -> bool {
-        true
+    fn lists(alloc: Global) -> Vec<u8> {
+        Vec::new(alloc)
     }
 
     fn rewrite(
         &self,
-        lists: &mut GnuLists,
+        text: &mut Vec<u8>,
+        kind: Kind,
+        symbol: &[u8],
         from: usize,
         out: &mut Vec<u8>,
     ) -> Result<(), AllocError> {
-        lists.text.clear();
-        append_spelled(&out[from..], &mut lists.text)?;
+        if !rewrites(self.reads_paths, kind.lang, symbol) {
+            return Ok(());
+        }
+        text.clear();
+        append_spelled(&out[from..], text)?;
         out.truncate(from);
-        out.extend_from_slice(&lists.text)
+        out.extend_from_slice(text)
     }
 
-    fn is_alike(&self, _other: &Gnu) -> bool {
-        true
+    fn is_alike(&self, other: &Gnu) -> bool {
+        self.reads_paths == other.reads_paths
     }
 }

@@ -7,7 +7,7 @@ ghost use Rattle.sym_short.specs.Rewriting.{texts_by};
 pub enum Texts {
     /// Whole ones.
     Whole,
-    /// Short ones, with the inline namespaces of `std` or without them.
+    /// Short texts, with the inline namespaces of `std` or without them.
     Short { keeps_inline: bool },
 }
 

@@ -133,7 +133,7 @@ counted-more firsts ns es new key n f own e = record {
             ap (slice_get new) (ap (number_at (ns ++ n ∷ [])) a ∙ new-number ns n) ∙ e.stored.1
             ∙ ap Some (sym e.stored.2 ∙ own ∙ ap (number_at firsts) (sym a))
 
--- numbers of the first things are also numbers of the things themselves
+-- numbers assigned to the first equal things are also numbers of the things themselves
 pub through : {A : Type 0} (thing : ℕ → A) (count : ℕ) (firsts numbers : List ℕ) → length firsts ≡ count → TellApart thing firsts
     → AreNumbered (number_at firsts) (length firsts) numbers → AreNumbered thing count numbers
 through thing count firsts numbers many apart are = record {

@@ -124,7 +124,7 @@ leads-append : (cs ds : List ℕ) → Leads cs → Leads (cs ++ ds)
 leads-append [] ds h = absurd h
 leads-append (c ∷ cs) ds h = h
 
--- a number that isn't 0 begins with no 0
+-- a number that isn't 0 doesn't begin with 0
 digits-lead : (fuel n : ℕ) → 0 < n → n < most_of 10 fuel → Leads (digits_in 10 decimal_digit fuel n)
 digits-lead zero n some small = absurd (omega (arith, some, small))
 digits-lead (suc fuel) n some small = go (nat_lt n 10) refl (digits-lead fuel (n / 10))

@@ -85,7 +85,7 @@ old-key [] more m k is = none-some is
 old-key (x ∷ ks) more zero k is = is
 old-key (x ∷ ks) more (suc m) k is = old-key ks more m k is
 
--- the list of keys `new` is `ks` after `key` was entered, which has the place `n`
+-- the list of keys `new` is `ks` after `key` was entered; `key` has the place `n` in it
 pub record Enters {K : Type 0} (Alike : K → K → Type 0) (eq : K → K → Bool) (ks new : List K) (key : K) (n : ℕ) : Type 0 where
   pub old : (m : ℕ) (k : K) → slice_get ks m ≡ Some k → slice_get new m ≡ Some k
   pub stored : (k : K) × (slice_get new n ≡ Some k) × Alike key k

@@ -13,7 +13,7 @@ pub record AreKeys {K A : Type 0} (Alike : K → K → Type 0) (thing : ℕ → 
   pub taken : (firsts : List ℕ) (i : ℕ) (a b : K) → IsKey firsts i a → Alike a b → IsKey firsts i b
   pub itself : (a : K) → Alike a a
 
--- A test that tells whether keys are alike, and a map that has the same at keys that are alike.
+-- A test that tells whether keys are alike, and a map that gives the same for keys that are alike.
 pub record IsLookUp {K : Type 0} (Alike : K → K → Type 0) (test : K → K → Bool) (first : K → Option ℕ) : Type 0 where
   pub told : (a b : K) → test a b ≡ true → Alike a b
   pub passed : (a b : K) → Alike a b → test a b ≡ true

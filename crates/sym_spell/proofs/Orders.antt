@@ -36,7 +36,7 @@ list-tied (x ∷ xs) (y ∷ ys) h =
 pub list-itself : (xs ys : List ℕ) → xs ≡ ys → slice_cmp nat_cmp xs ys ≡ Equal
 list-itself xs ys is = subst (λ zs. slice_cmp nat_cmp xs zs ≡ Equal) is (tied_itself nat_list_cmp_total xs)
 
--- a map has the same at keys that compare as equal
+-- a map has the same entry at keys that compare as equal
 pub same-look : {K X : Type 0} (cmp : K → K → Ordering) (a b : K) → ((q : K) → cmp a q ≡ cmp b q) → (m : BTreeMap K X) → get cmp m a ≡ get cmp m b
 same-look {K} {X} cmp a b same m = go m.entries
   where

@@ -1,4 +1,4 @@
--- Keys at places: what is known of each key after one key more.
+-- Keys at places: what is known of each key after one more key.
 use Rattle.std.proofs.Common.{◌≡◌, ℕ, zero, suc, ◌-◌, ◌%◌, ◌<◌, ◌≤◌, ◌⊎◌, inl, inr, length, List, [], ◌∷◌, ◌++◌, slice_get, get_or, slice_set, Option, Some, None, Bool, true, false, refl, ap, arith, sym, subst, ◌∙◌, length-append, Ordering, Equal}
 use Rattle.std.specs.Prelude.{cond, ◌==◌, replicate}
 use Rattle.std.specs.Cmp.{IsTotalOrder}

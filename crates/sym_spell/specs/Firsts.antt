@@ -1,4 +1,4 @@
--- The first thing with each of some keys: at the place that the key's mark says, or in a map.
+-- The first thing with each of some keys, found at the place that the key's mark gives, or in a map.
 use Rattle.std.specs.Prelude.{◌≡◌, ℕ, zero, suc, ◌+◌, ◌*◌, ◌-◌, ◌/◌, ◌%◌, ◌<◌, ◌≤◌, List, length, slice_get, get_or, cond, Option, Some, None}
 use Rattle.std.specs.Ordering.{is_eq}
 use Rattle.std.specs.declared.cmp.Ordering.{Ordering}
@@ -13,7 +13,7 @@ text_mark text =
 abbrev pub place_of : {K : Type 0} → (mark : K → ℕ) → K → ℕ
 place_of mark key = mark key % 509
 
--- the thing with this number, counted from 1; none has the number 0
+-- the thing with this number, counted from 1; no thing has the number 0
 abbrev pub numbered : {A : Type 0} → List A → ℕ → Option A
 numbered things zero = None
 numbered things (suc k) = slice_get things k
@@ -30,8 +30,8 @@ first_or cmp (Some seen) more key = cond (is_eq (cmp seen.key key)) (Some seen.n
 abbrev pub first_in : {K : Type 0} → (cmp : K → K → Ordering) → (mark : K → ℕ) → (places : List ℕ) → List (Seen K) → (more : K → Option ℕ) → K → Option ℕ
 first_in cmp mark places seen more key = first_or cmp (seen_at places seen (place_of mark key)) more key
 
--- As long as there is room, the map has only keys whose place has another key. The key of an entry at a place has that
--- place by its mark.
+-- As long as there is room, the map has only keys whose place has another key. If an entry is at a place, the mark of
+-- its key gives that place.
 pub record IsIndex {K : Type 0} (mark : K → ℕ) (places : List ℕ) (seen : List (Seen K)) (more : K → Option ℕ) : Type 0 where
   pub long : length places ≡ 509
   pub within : (place : ℕ) → get_or places place 0 ≤ length seen

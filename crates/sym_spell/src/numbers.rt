@@ -54,7 +54,7 @@ impl Numbers {
         Ok(Numbers { numbers, looks })
     }
 
-    /// The number of a node, which is given by its place in the symbol. It takes no memory.
+    /// The number of a node, which is given by its place in the symbol. The call takes no memory.
     pub fn number_of(&self, node: u32) -> u32
         requires { node < length self.now }
         ensures number { result ≡ number_at self.now node }
@@ -63,7 +63,7 @@ impl Numbers {
         self.numbers[node as usize]
     }
 
-    /// How many look-ups were made: one for each node. It is above every number. It takes no memory.
+    /// How many look-ups were made: one for each node. The count is above every number. The call takes no memory.
     pub fn looks(&self) -> u32
         ensures each { result ≡ length self.now }
         ensures above { AreBelow self.now result }

@@ -61,9 +61,9 @@ unfoldable pub without_parts : Result Parsed Refusal → Result (List ℕ) Refus
 without_parts (Ok parsed) = Ok parsed.text
 without_parts (Err refusal) = Err refusal
 
--- How the texts of a mangling's symbols are marked, what the symbols are, and which of their bytes spell which parts. W are the
--- trees that symbols denote. The bytes of parts are known from a symbol's bytes, the rows of its shape and the stretches of its
--- text.
+-- How the texts of a mangling's symbols are marked, what the symbols are, and which of their bytes spell which parts. `W` is
+-- the type of the trees that symbols denote. The bytes of parts are known from a symbol's bytes, the rows of its shape and the
+-- stretches of its text.
 pub record Marking (W : Type 0) : Type 0 where
   pub marked : W → Unshared → Marked
   pub kind : W → NameKind
@@ -133,7 +133,8 @@ parsed_behind skip (Err refusal) = Err refusal
 abbrev pub Parsing : Type 0
 Parsing = Kind → List ℕ → Result Parsed Refusal
 
--- the answers with this grammar of C++. A legacy Rust name is also a C++ symbol: it is answered as that, or as the path that it denotes.
+-- the answers with this grammar of C++. A legacy Rust name is also a C++ symbol: it is answered as a C++ symbol, or as the path that it
+-- denotes.
 abbrev pub parsed_by : {W : Type 0} → Mangled W → Marking W → (legacy : Bool) → (limit : ℕ) → Detail → Parsing
 parsed_by cpp marking legacy limit detail =
     if legacy then (λ kind symbol. parsed_behind kind.skip (legacy_parsed limit symbol (language_parsed_by cpp marking limit detail kind.lang symbol)))

@@ -35,7 +35,7 @@ fn parts_behind(alloc: Global, skip: u32, parts: &[Part]) -> Result<Vec<Part>, A
 ///
 /// # Errors
 ///
-/// Where memory runs out.
+/// `AllocError` where memory runs out.
 pub(crate) fn parsed_behind(alloc: Global, skip: u32, parsed: Parsed) -> Result<Parsed, AllocError>
     ensures { IfOk result (λ behind. Ok (found behind) ≡ parsed_behind skip (Ok (found parsed))) }
 {

@@ -10,13 +10,13 @@ ghost use Rattle.symbol_parts.specs.Parsed.{parsed, without_parts};
 
 use crate::marked::Marked;
 
-/// An answer with parts is, without them, the answer for the symbol: the same text, or the same refusal.
+/// Without its parts, an answer with parts is the answer for the symbol: the same text, or the same refusal.
 pub fn text_is_the_answer<M: Marked>()
     ensures { (detail : Detail) (s : List ℕ) (limit : ℕ) → AreBytes s → without_parts (parsed M.over M.marking detail s limit) ≡ answer M.mangled detail s limit }
 {}
 
-/// Each part is a slice of the text. The parts are in the order of their starts; of two parts one is within the other, or they are apart.
-/// The bytes that spell a part are bytes of the symbol.
+/// Each part is a slice of the text. The parts are in the order of their starts; any two parts are apart, or one is within the other. The
+/// bytes that spell a part are bytes of the symbol.
 pub fn parts_are_placed<M: Marked>()
     ensures text { (detail : Detail) (s : List ℕ) (limit : ℕ) → AreBytes s → IfOk (parsed M.over M.marking detail s limit) (λ p. ArePlaced (length p.text) p.parts) }
     ensures bytes { (detail : Detail) (s : List ℕ) (limit : ℕ) → AreBytes s → IfOk (parsed M.over M.marking detail s limit) (λ p. All (IsSpelledWithin (length s)) p.parts) }

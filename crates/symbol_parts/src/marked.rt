@@ -43,7 +43,7 @@ pub trait Marked: Mangling {
     ///
     /// # Errors
     ///
-    /// `TooLong` exactly where it costs more, `Memory` where a list couldn't grow.
+    /// `TooLong` exactly where the text costs more, `Memory` where a list couldn't grow.
     fn stretches_as(
         alloc: Global,
         symbol: &Self::Symbol,

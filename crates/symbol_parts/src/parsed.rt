@@ -7,6 +7,6 @@ use sym_parts::{NameKind, Part};
 pub struct Parsed {
     pub text: Vec<u8>,
     pub kind: NameKind,
-    /// The parts, in the order of their starts; of two parts one is within the other, or they are apart.
+    /// The parts, in the order of their starts; any two parts are apart, or one is within the other.
     pub parts: Vec<Part>,
 }

@@ -25,7 +25,7 @@ fn length_of(text: &[u8]) -> u32
 ///
 /// # Errors
 ///
-/// Those of `sym_demangle::read`, and `TooLong` exactly where the text costs more.
+/// The errors of `sym_demangle::read`, and `TooLong` exactly where the text costs more.
 pub(crate) fn parse_as<M: Marked>(
     alloc: Global,
     symbol: &[u8],

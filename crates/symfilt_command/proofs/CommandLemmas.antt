@@ -27,11 +27,11 @@ use Rattle.symfilt_command.specs.Command.{answers_of, counting_of, filter_answer
 
 -- ## What is answered
 
--- a fact of the answers, where it is known whether legacy Rust names are paths
+-- a fact about the answers, where it is known whether legacy Rust names are paths
 pub by-legacy : {W : Type 0} → (P : Answering → Type 0) (cpp : Mangled W) (legacy known : Bool) (limit : ℕ) (detail : Detail) → legacy ≡ known → P (answers_by cpp known limit detail) → P (answers_by cpp legacy limit detail)
 by-legacy P cpp legacy known limit detail is given = subst (λ paths. P (answers_by cpp paths limit detail)) (sym is) given
 
--- a fact of what is requested, where that is known
+-- a fact about what is requested, where the request is known
 pub by-asked : (P : Asked → Type 0) (asked known : Asked) → asked ≡ known → P known → P asked
 by-asked P asked known is given = subst (λ a. P a) (sym is) given
 

@@ -28,7 +28,7 @@ use sym_short::{Rewriting, Shortening, Texts};
 ///
 /// # Errors
 ///
-/// `Read` and `Write` where a stream failed, `Memory`. The bytes written are a beginning of those that a run without faults writes.
+/// `Read` and `Write` where a stream failed, and `Memory`. The bytes written are a beginning of those that a run without faults writes.
 pub fn run_over<S: Source, W: Sink, E: Sink>(
     alloc: Global,
     words: &[&str],
@@ -59,7 +59,7 @@ pub fn run_over<S: Source, W: Sink, E: Sink>(
 ///
 /// # Errors
 ///
-/// Those of `filter_words`.
+/// The errors of `filter_words`.
 pub fn filter_asked<S: Source, W: Sink>(
     alloc: Global,
     filtering: Filtering,
@@ -135,8 +135,10 @@ fn filter_as<D: Alike + Copy + Drop, S: Source, W: Sink>(
         Texts::Short { keeps_inline } => {
             let short = Rewriting {
                 demangler,
-                rewrite: Shortening { keeps_inline },
-                reads_paths: filtering.legacy,
+                rewrite: Shortening {
+                    keeps_inline,
+                    reads_paths: filtering.legacy,
+                },
             };
             filter_by(alloc, short, filtering.letters, input, out)
         }
@@ -345,8 +347,10 @@ fn answer_as<D: Demangler + Copy + Drop, W: Sink, E: Sink>(
         Texts::Short { keeps_inline } => {
             let short = Rewriting {
                 demangler,
-                rewrite: Shortening { keeps_inline },
-                reads_paths: options.legacy,
+                rewrite: Shortening {
+                    keeps_inline,
+                    reads_paths: options.legacy,
+                },
             };
             answer_words(alloc, &short, options, words, out, err)
         }

@@ -1,4 +1,3 @@
 mod SliceLemmas
 mod MarkLemmas
 mod SequenceLemmas
-mod AnswerLemmas

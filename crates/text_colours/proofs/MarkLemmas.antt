@@ -1,4 +1,4 @@
--- A marked text with the parts that its marks make, whichever bytes spell them.
+-- A marked text is coloured as its marks say, whichever bytes of the symbol spell the parts.
 use Rattle.std.proofs.Common.{◌≡◌, ◌≤◌, ◌∙◌, ◌+◌, ℕ, suc, Bool, true, false, List, [], ◌∷◌, ◌++◌, length, map, refl, ap, ap₂, sym, arith, append_assoc, append-nil, length-append, ◌&&◌, not, ◌==◌}
 use Rattle.std.specs.Prelude.{nat_le, nat_lt, if◌then◌else◌}
 use Rattle.std.specs.List.{All}
@@ -40,7 +40,7 @@ are-parts s place (marked role ordinal inside rest) =
     ap (λ ps. part_at s place role ordinal inside ∷ ps)
     (map-append (part_of s) (stretches_from place inside) (stretches_from next rest) ∙ ap₂ (λ ps qs. ps ++ qs) (are-parts s place inside) (are-parts s next rest))
 
--- parts from a place on begin there or later, and end at the latest with their text
+-- the parts of a marked text that begins at a place begin there or later, and end no later than the text
 begin-from : (s : Spelling) (place low : ℕ) (m : Marked) → low ≤ place → All (λ part. low ≤ part.start) (parts_from s place m)
 unfolding part_of
 begin-from s place low done h = All-nil (λ part. low ≤ part.start)
@@ -84,7 +84,7 @@ with-style part first style length-1 has some =
 abbrev pub Writes : Spelling → List ℕ → ℕ → Marked → List Part → Type 0
 Writes s all place m more = colored_from all place (parts_from s place m ++ more) ≡ colored_marked m ++ colored_from all (place + length (text_of m)) more
 
--- a mark without a style of its own is written as the marks in it are
+-- a mark whose part isn't shown in a style is written as what is inside it
 unstyled : (s : Spelling) (all : List ℕ) (place : ℕ) (role : Role) (ordinal : Ordinal) (inside rest : Marked) (more : List Part) → let next = place + length (text_of inside) in
     shows place (part_at s place role ordinal inside) ≡ false → Writes s all place inside (parts_from s next rest ++ more) → Writes s all next rest more
     → colored_from all place (parts_from s place (marked role ordinal inside rest) ++ more) ≡ colored_marked inside ++ (colored_marked rest ++ colored_from all (place + length (text_of inside ++ text_of rest)) more)
@@ -96,7 +96,7 @@ unstyled s all place role ordinal inside rest more hidden first second =
     ∙ first
     ∙ ap (λ (t : List ℕ). colored_marked inside ++ t) (second ∙ ap (λ (n : ℕ). colored_marked rest ++ colored_from all n more) (omega (arith, length-append (text_of inside) (text_of rest))))
 
--- a mark with a style is written in that style
+-- a mark whose part is shown in its style is written in that style
 styled : (s : Spelling) (all front back : List ℕ) (place : ℕ) (role : Role) (ordinal : Ordinal) (inside rest : Marked) (more : List Part) → let next = place + length (text_of inside) in
     all ≡ front ++ (text_of inside ++ back) → place ≡ length front → shows place (part_at s place role ordinal inside) ≡ true → Writes s all next rest more
     → colored_from all place (parts_from s place (marked role ordinal inside rest) ++ more) ≡ (style_of role ++ (text_of inside ++ plain)) ++ (colored_marked rest ++ colored_from all (place + length (text_of inside ++ text_of rest)) more)

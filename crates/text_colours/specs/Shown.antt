@@ -3,7 +3,8 @@ use Rattle.std.specs.Prelude.{◌≢◌, ℕ, ◌==◌, List, [], ◌∷◌, ◌
 use Rattle.sym_parts.specs.Marked.{Marked, done, text, marked, text_of}
 use Rattle.text_colours.specs.Styles.{plain, style_of}
 
--- how a marked stretch is shown: its text in the style, if there is a style and the text isn't empty; otherwise as without a style
+-- how a marked stretch is shown: its text in the style, if there is a style and the text isn't empty; otherwise what is shown
+-- without a style
 abbrev pub shown_in : (style bytes without : List ℕ) → List ℕ
 shown_in [] bytes without = without
 shown_in (first ∷ style) [] without = without

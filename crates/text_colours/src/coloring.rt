@@ -58,7 +58,7 @@ fn end_of(part: Part) -> usize
     part.start as usize + part.length as usize
 }
 
-/// The bytes of a text from one place to another, as far as it has them.
+/// The bytes of a text from one place to another, as far as the text has them.
 fn slice(text: &[u8], from: usize, to: usize) -> &[u8]
     ensures { result.now ≡ slice text.now from to }
 {

@@ -2,10 +2,10 @@
 #![tactic(auto)]
 
 mod coloring;
-mod demangler;
 mod laws;
+mod rewriting;
 mod styles;
 
 pub use coloring::colored;
-pub use demangler::Colored;
 pub use laws::{colors_are_those_of_marks, colors_change_no_text};
+pub use rewriting::Coloring;

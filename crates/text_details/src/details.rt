@@ -25,7 +25,7 @@ pub trait Detailed: Demangler {
     ///
     /// # Errors
     ///
-    /// Where memory runs out.
+    /// `AllocError` where memory runs out.
     fn find_details(
         &self,
         alloc: Global,

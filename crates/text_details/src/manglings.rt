@@ -40,7 +40,7 @@ impl Mangling {
         }
     }
 
-    /// The mangling's number, from 1 on. It stays from one version to the next.
+    /// The mangling's number, from 1 on. The number stays the same from one version to the next.
     pub fn number(self) -> u32
         ensures { result ≡ mangling_number self }
     {
@@ -52,7 +52,7 @@ impl Mangling {
     }
 }
 
-/// The mangling of a symbol. A legacy Rust name is a C++ symbol, too; its mangling is Rust's only where it is read as a path.
+/// The mangling of a symbol. A legacy Rust name is a C++ symbol, too; its mangling is Rust's only if the name is read as a path.
 pub fn mangling_of(reads_paths: bool, lang: Lang, symbol: &[u8]) -> Mangling
     ensures { result ≡ mangling_of reads_paths lang symbol.now }
 {

@@ -23,12 +23,12 @@ is_type_word name = nat_le (length name) LONGEST_WORD && list_all is_type_byte n
 abbrev pub information_words : List ℕ
 information_words = codes "typeinfo for "
 
--- the text after that beginning
+-- the text after `information_words`, with which the text of each typeinfo symbol begins
 abbrev pub after_words : List ℕ → Result (List ℕ) Refusal
 after_words text =
     if pointwise nat_eq (take (length information_words) text) information_words then Ok (drop (length information_words) text) else Err (Malformed 0)
 
--- the refusal of a type, by that of its typeinfo symbol: the place is counted from the type, which begins after the
+-- the refusal of a type, given that of its typeinfo symbol: the place is counted from the type, which begins after the
 -- four bytes `_ZTI`
 abbrev pub before_front : Refusal → Refusal
 before_front (Malformed at) = Malformed (at - 4)
@@ -37,7 +37,7 @@ before_front (BadValue at) = BadValue (at - 4)
 before_front TooLong = TooLong
 before_front Memory = Memory
 
--- the answer for a type, by the answer for its typeinfo symbol
+-- the answer for a type, given the answer for its typeinfo symbol
 abbrev pub type_by : Result (List ℕ) Refusal → Result (List ℕ) Refusal
 type_by (Ok text) = after_words text
 type_by (Err refusal) = Err (before_front refusal)

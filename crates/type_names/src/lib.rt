@@ -24,7 +24,7 @@ const INFORMATION_WORDS: &[u8] = b"typeinfo for ";
 ///
 /// # Errors
 ///
-/// Where memory runs out.
+/// An error where memory runs out.
 pub fn type_for<D: Demangler>(
     alloc: Global,
     demangler: &D,

@@ -1,4 +1,4 @@
--- The rows hold: computed.
+-- The rows hold, as computing them shows.
 use Rattle.std.specs.Prelude.{◌≡◌, refl, true}
 use Rattle.std.specs.Fmt.{digits}
 use Rattle.sym_print.specs.Unfold.{printed_to, printed}

@@ -1,4 +1,5 @@
--- Symbols that only the wide grammar reads, each with its text and its cost. Together they take each production that only it has.
+-- Symbols that only the wide grammar reads, each with its text and its cost. Together the symbols take each production that only
+-- this grammar has.
 use Rattle.std.specs.Prelude.{List, [], ◌∷◌}
 use Rattle.cpp_grammar.proofs.Row.{Row, prints, refers_badly}
 

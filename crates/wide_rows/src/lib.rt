@@ -1,4 +1,4 @@
-//! Symbols that only the wide grammar reads, which the checker computes by its definitions: only laws.
+//! Symbols that only the wide grammar reads: the checker computes their texts and costs. The crate has only laws.
 #![tactic(auto)]
 
 mod laws;

@@ -1,4 +1,4 @@
--- Arguments of templates that were read, of each kind: lists of them, packs, literals and addresses.
+-- Template arguments of each kind that were read: lists of arguments, packs, literals and addresses.
 use Rattle.cpp_press_laws.proofs.Basics.{◌≡◌, ℕ, [], ◌∷◌, true, false, refl, ap, sym, subst, ◌∙◌, nat_eq, Kind, Production, Operation, alternatives, is_chain, number_of_kind, parts_of, number_of, absent, State, outermost, Around, Value, pair, tree_of, letter_of, part, between, no_items, operation_by, operation_or_address, is_code, meaning, byte_of, literal_type, IsBuiltin}
 use Rattle.cpp_grammar.specs.Unfolding as unfolding_
 use Rattle.cpp_press_laws.proofs.Fits.Symbols.{WholeFits}

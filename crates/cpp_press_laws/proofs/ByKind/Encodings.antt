@@ -103,7 +103,8 @@ part-came x around from state shape v new small front is e =
       old = old_grows false around from later state new (omega arith) front.placed.old came.grows;
     }
 
--- a property of the production's meaning and the state after it holds of the value and the state that were read
+-- a property that holds of the production's meaning and of the state after it holds of the value and the state that
+-- were read
 ended-read : (P : Value → State → Type 0) (p : Production) (byte : ℕ) (around : Around) (old : State) (vs : List Value) (mid : State)
     (v : Value) (new : State) → Ended p byte around old vs mid v new → P (Meant p byte around vs) (Later p byte around old vs mid) → P v new
 ended-read P p byte around old vs mid v new e one = subst (λ w. P w new) (sym e.comes) (subst (P (Meant p byte around vs)) (sym e.ends) one)
@@ -201,7 +202,7 @@ guard-read around at old v new front o =
     o.comes)
     (subst (λ w. EncodingRead around w old h.after) (sym guard.1) (record { is = refl; value = refl; fits = whole }))
 
--- an encoding that begins with a T fits, by what is known of what follows the T
+-- an encoding that begins with a T fits, given what is known of what follows the T
 special-encoding : (around : Around) (at : ℕ) (v : Value) (old new : State) → StaysBehind around at old new
     → SpecialRead (in_name at) v old new → EncodingRead around v old new
 unfolding is_encoding tree_of
@@ -228,7 +229,7 @@ special-read around at old v new front o =
     (ended-as Production.Special byte around old o.inner o.one (g.value ∷ []) g.after v new (ok_same _ o.one o.closes) g.onward o.comes)
     (special-encoding around at g.value old g.after stays one)
 
--- an encoding, by what is known of its parts
+-- an encoding fits, given what is known of its parts
 pub encoding-branch : BranchRead Kind.Encoding
 unfolding alternatives number_of_kind number_of
 encoding-branch rule taken parts all around at old v new front is e =
@@ -263,7 +264,7 @@ thunk-read : (around : Around) (kind : Thunk) (v : Value) (old mid new : State) 
 thunk-read around kind v old mid new good same one =
     inr (kind, tree_of v, refl, good, subst (λ s. WholeFits around (tree_of v) s new) same one.fits)
 
--- special encodings of a type, and thunks, by what is known of their parts
+-- special encodings of a type, and thunks, fit, given what is known of their parts
 pub special-branch : BranchRead Kind.Special
 unfolding alternatives parts_of between number_of_kind meaning part unfolding_.behind is_chain number_of
 special-branch rule taken parts all around at old v new front is e =

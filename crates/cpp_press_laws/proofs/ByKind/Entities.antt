@@ -16,7 +16,8 @@ use Rattle.cpp_press_laws.proofs.ByKind.Rules.{IsAmong}
 
 -- ## Entities and their discriminators
 
--- an entity after its encoding, with a discriminator or none, which leave the state as it is
+-- an entity after its encoding, and perhaps a discriminator after the entity; the discriminator leaves the state as it
+-- is
 local-name : (around : Around) (e entity d : Value) (old mid from late new : State) → EncodingRead around e old mid → from ≡ mid
     → EntityFits (after (tree_of e) true around) (tree_of entity) (in_name_with (qualifiers_of entity) (ref_of entity)) from late × IsAbiMark (ref_of entity)
     → new ≡ late → IsSpellableDiscriminator (discriminator_of d)

@@ -179,7 +179,7 @@ pub record PartRead (x : Sym) (f : Forest) (from : ℕ) (next : Next Value State
   pub read : SymbolRead x next.context value next.state after
   pub onward : rest others (next.values ++ value ∷ []) (from + length (spell shape)) after
 
--- the other parts of a production that begins at `place` were read after parts with the values `vs`, and the production's
+-- the other parts of a production that begins at `place` were read after parts with the values `vs`; the production's
 -- value and the state after it are the given ones
 abbrev pub PartsRead : Production → (byte : ℕ) → Around → (place : ℕ) → (old : State) → Value → (new : State) → List Sym → Forest
     → List Value → (from : ℕ) → State → Type 0
@@ -403,7 +403,7 @@ pub one-read : (kind : Kind) (rule : Rule) (taken : List ℕ) (parts : Forest) �
 one-read kind rule taken parts all around at old v new front is e =
     by-name (alternatives kind) (OpenedRead kind around at old v new) (opened-read kind rule taken parts all around at old v new front is e)
 
--- what was read as a kind was read as each kind that takes the same production at each byte
+-- what was read as a kind was also read as each kind that takes the same production at each byte
 pub taken-as : (j k : Kind) → each_below 256 (λ b. same_choice (choose j b) (choose k b)) ≡ true
     → (around : Around) (at : ℕ) (old : State) (v : Value) (new : State) (p : Production)
     → OpenedRead j around at old v new p → OpenedRead k around at old v new p
@@ -419,7 +419,8 @@ taken-as j k all around at old v new p o = record {
   goes = o.goes;
 }
 
--- what was read as a production of one kind was read as a production of each kind that takes the same at each byte
+-- what was read as a production of one kind was also read as a production of each kind that takes the same production
+-- at each byte
 pub taken-among : (j k : Kind) → each_below 256 (λ b. same_choice (choose j b) (choose k b)) ≡ true
     → (around : Around) (at : ℕ) (old : State) (v : Value) (new : State) (some : List Alternative)
     → OneOf some (OpenedRead j around at old v new) → OneOf (alternatives k) (OpenedRead k around at old v new)

@@ -24,7 +24,7 @@ leaf-same Q v w state s e q = (ap (λ r. r.state) e, subst Q (sym (ap (first-or 
 digit-small : (b : ℕ) → is_digit_of Length b ≡ true → b ≤ 57
 digit-small b h = grind (arith, nat_tests)
 
--- k times ten for each digit: more than the value of these digits after a number below k
+-- k times a ten for each digit: greater than any number that these digits end and a number below k begins
 unfoldable grown_by : ℕ → List ℕ → ℕ
 grown_by k [] = k
 grown_by k (d ∷ ds) = grown_by (k * 10) ds

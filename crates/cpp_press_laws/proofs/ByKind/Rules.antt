@@ -237,7 +237,7 @@ opened P kind rule taken parts all around at state r is e =
 -- ## All shapes
 
 mutual
-  -- a fact holds of each shape, if it holds of a shape whenever it holds of its parts
+  -- a fact holds of each shape, if it holds of a shape whenever it holds of the shape's parts
   pub every-shape : (P : Shape → Type 0) → ((rule : Rule) (taken : List ℕ) (parts : Forest) → AllOf P parts → P (branch rule taken parts))
       → P empty → ((t : Token) → P (token t)) → ((b : ℕ) → P (fixed b)) → (t : Shape) → P t
   every-shape P step none own byte (branch rule taken parts) = step rule taken parts (every-part P step none own byte parts)

@@ -1,4 +1,5 @@
--- Types by their own letters and lists of types that were read: each production keeps to what is known of its kind.
+-- Types with letters of their own, and lists of types, as they were read: each production keeps to what is known of its
+-- kind.
 use Rattle.cpp_press_laws.proofs.Basics.{◌≡◌, ℕ, [], ◌∷◌, Bool, true, refl, sym, subst, Kind, Production, Operation, alternatives, parts_of, is_chain, number_of, builtin, State, outermost, Around, Value, tree, tree_of, text_of, normal, part, ref_of, between, no_items, signature_or, meaning, with_item, byte_of, Slot, item_type, parameter_type, takes_all}
 use Rattle.cpp_grammar.specs.Unfolding as unfolding_
 use Rattle.cpp_press_laws.proofs.Fits.Types.{SolidFits, pointer-fits, array-fits, member-pointer-fits}

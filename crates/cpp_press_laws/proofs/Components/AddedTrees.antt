@@ -328,7 +328,7 @@ fitting-few (symbol e suffix) fits =
     omega (arith, (after-bytes 0 0 (codes "_Z") (omega arith) (before-bytes 0 0 suffix (omega arith) a)).few)
 fitting-few _ fits = absurd fits
 
--- a name has at least as many bytes as arguments that it ends in
+-- a name that ends in arguments has at least as many bytes as arguments
 pub arguments-counted : CountsArguments
 unfolding arguments_count
 arguments-counted t q ref around allowed place cs fits a is =

@@ -1,5 +1,5 @@
--- A spelling that fits adds the components in it or finds them, and adds more bytes than components. This file shows it for
--- kinds of spellings, and for each way of a tree, by the sort of the tree.
+-- A spelling that fits adds the components in it or finds them, and adds more bytes than components. This file shows this
+-- for kinds of spellings, and for each way of a tree, by the sort of the tree.
 use Rattle.cpp_press_laws.proofs.Basics.{sym, ◌∙◌, arith, ◌≡◌, ℕ, ◌+◌, ◌≤◌, inl, inr, length, List, [], ◌++◌, Option, Some, None, Bool, true, false, refl, ◌⊎◌, ◌∷◌, subst, length-append, codes, ◌and◌, text, false≢true, Qualifiers, RefQualifier, Term, string_literal, count, arguments_of, Around, name_letters, Component, Spelling, first_equal, seq_id, reference, spelled_out, component, ended, referred, Ways, no_ways, type_ways, template_before, entity_text, begun, encoding_ways, piece_ways, argument_ways, in_N_and_E, with_letters, Written, written, Standing, Fitting, as_component, as_reference, as_template, behind_bytes, Slot, any_type, bare_type, item_type, parameter_type, literal_type, Role, letters_of, Fits, nowhere, fits_nowhere, type_fits, piece_fits, argument_fits, encoding_fits, Behind, IsWithoutLetters, by_letters}
 use Rattle.cpp_press_laws.proofs.Components.Parts.{IsComponent, Shut, Inside, Whole, Unqualified, Has, has-before, has-itself, has-closed, found-stands}
 use Rattle.cpp_press_laws.proofs.Components.KnownTrees.{In}
@@ -90,7 +90,7 @@ tree-found {n} {own} {cs} number bytes is some = record {
   few = omega (arith, some);
 }
 
--- of what a spelling adds in an encoding, the trees without free parameters are added outside the encoding, too
+-- the trees without free parameters that a spelling adds in an encoding are added outside the encoding, too
 pub outside-added : {k n m : ℕ} {P : Term → Type 0} {cs : List Component} {w : Written} → AddsParts k n P cs w
     → AddsParts k m (λ x. Shut (P x) x) cs w
 outside-added {k} {n} {m} {P} {cs} {w} a =
@@ -198,7 +198,7 @@ unfolding with_letters
 no-letters-add k [] n P F own between one place cs fits = fewer-by k 0 (omega arith) (one place cs fits.1)
 no-letters-add k (l ∷ ls) n P F own between one place cs fits = absurd fits.0
 
--- right under qualifiers a type has a way of its own
+-- a type right under qualifiers has a way of its own
 unfoldable pub way_at : Slot → Ways → Spelling
 way_at bare_type w = w.under_qualifiers
 way_at _ w = w.as_type

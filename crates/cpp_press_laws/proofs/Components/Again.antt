@@ -25,7 +25,7 @@ abbrev pub IsNoVoid : Term → Type 0
 IsNoVoid (list first rest) = is_void first && is_nil rest ≡ false
 IsNoVoid _ = Unit {0}
 
--- what is known of a function type that is a candidate in this scope; nothing of other trees
+-- what is known of a function type that is a candidate in this scope; nothing is known of other trees
 abbrev pub FunctionStands : (scope : Option Term) → Term → Type 0
 FunctionStands scope (function_type c_linkage noexcept ref returned parameters) =
     ItemStands any_type scope (packs_in scope (function_type c_linkage noexcept ref returned parameters)) returned

@@ -123,7 +123,8 @@ pub complete-has : (n : ℕ) (t : Term) (cs : List Component) → Complete cs �
 complete-has n t cs complete has x (inl same) = subst (λ u. Has n u cs) (sym same.1) has
 complete-has n t cs complete has x (inr i) = all-has n t cs cs complete has x i
 
--- If the components that a spelling is made from are there, it adds no new component that may be referred to.
+-- If the components that a spelling is made from are listed already, the spelling adds no new component that may be
+-- referred to.
 pub nothing-new : (n : ℕ) (R : Term → Type 0) (spelling : Spelling) → KeepsTo Unit n R spelling → (place : ℕ) (cs : List Component)
     → n ≤ place
     → ((x : Term) → R x → Has n x cs) → (x : Term) → IsComponent x → Has n x (spelling place cs).components → Has n x cs
@@ -257,8 +258,7 @@ abbrev pub AllBefore : ℕ → List Candidate → Type 0
 AllBefore place [] = Unit {0}
 AllBefore place (c ∷ cs) = (c.encoding < place) × AllBefore place cs
 
--- In an encoding of its own, which has no candidate yet, the candidates without free parameters are among the
--- components.
+-- In an inner encoding, which has no candidate yet, the candidates without free parameters are among the components.
 each-inner : (read pressed inner own : ℕ) (cs : List Candidate) (components : List Component) → AllBefore inner cs → EachStands read pressed cs components
     → EachStands inner own cs components
 each-inner read pressed inner own [] components before among = tt
@@ -319,6 +319,6 @@ named-stands read n number c candidates components among at may = each-named rea
 
 -- ## Packs
 
--- if the expansion has named packs of some length, that is the allowed length
+-- if the expansion has named packs of some length, that length is the allowed one
 abbrev pub Allows : (allowed packs : Option ℕ) → Type 0
 Allows allowed packs = (m : ℕ) → packs ≡ Some m → allowed ≡ Some m

@@ -6,7 +6,7 @@ use Rattle.cpp_press_laws.proofs.Fits.Symbols.{WholeFits}
 use Rattle.cpp_press_laws.proofs.ByKind.Root.{read-as}
 use Rattle.cpp_press_laws.proofs.ByKind.Shapes.{shape-read}
 
--- at most as many components as candidates, and worth at most as much
+-- the tree has at most as many components as the state has candidates, and they are worth at most as much
 abbrev pub AreFew : Term → State → Type 0
 AreFew t s =
     (length (spelled_components t) ≤ length s.candidates)

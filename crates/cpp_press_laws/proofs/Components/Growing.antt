@@ -1,4 +1,5 @@
--- What pressing adds, with marks and without: the same components, which are apart, each smaller than the pressed tree.
+-- Pressing adds the same components with marks and without. These components are apart, and each is smaller than the
+-- pressed tree.
 use Rattle.cpp_press_laws.proofs.Basics.{◌≡◌, ℕ, suc, ◌+◌, ◌<◌, ◌≤◌, inl, inr, length, List, [], ◌∷◌, ◌++◌, Option, Some, None, Bool, true, false, refl, ap, arith, sym, subst, ◌∙◌, append_assoc, append-nil, not, ◌&&◌, ◌||◌, nat_eq, codes, ◌and◌, text, nothing, Term, symbol, function, object, special, thunk, of_name, construction, clone, alone, in_std, within, instance, local, holder, tagged, of_default, inheriting, lambda, generic_lambda, conversion, pointer, lvalue, rvalue, array, constrained, bounded, member_pointer, function_type, qualified, vector, complex, decltype, expansion, integer, encoding_literal, address_of, operation, pack, list, enumeration, bindings, declaring, is_open, same_tree, Component, Spelling, is_same, first_equal, seq_id, reference, ended, spelled_out, referred, component, in_N_and_E, template_before, Marked, unmarked, IsNeverReferred, IsNew, IsApart, AreApartBehind}
 use Rattle.sym_spell.specs.Pressing as spell
 use Rattle.cpp_press_laws.specs.MarkedComponents as marks
@@ -93,7 +94,7 @@ below-new encoding own (c ∷ cs) (low, rest) = (go (same_tree own c.component.t
     go true same = let equal : size own ≡ size c.component.tree = ap size (equal-tree own c.component.tree same) in absurd (omega (arith, low, equal))
     go false same = refl
 
--- if `first_equal` finds no component that is equal to a tree, no component is
+-- if `first_equal` finds no component that is equal to a tree, no component is equal to it
 none-equal : (encoding : ℕ) (own : Term) (from : ℕ) (cs : List Component) → first_equal encoding own from cs ≡ None → IsNew encoding own cs
 unfolding first_equal
 none-equal encoding own from [] none = tt
@@ -107,8 +108,8 @@ none-equal encoding own from (c ∷ cs) none = go (is_same encoding own c) refl 
 
 -- ## What spellings add
 
--- A spelling adds components below a size. If the components before it are apart in a tree, so are all components after it.
--- Without the marks of the components, the bytes and the components are those of the plain spelling.
+-- A spelling adds only components that are smaller than a size. If the components before it are apart in a tree, so are all
+-- components after it. Without the marks of the components, the bytes and the components are those of the plain spelling.
 pub record Adds (whole : Term) (m : ℕ) (components : List Marked) (pressed : spell.Pressed Marked) (plain : spell.Pressed Component) : Type 0 where
   pub added : List Marked
   pub split : pressed.components ≡ components ++ added

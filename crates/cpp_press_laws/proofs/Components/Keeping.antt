@@ -105,7 +105,7 @@ grown_keeps {plain = plain} one = record {
         sym (unmarked-append cs a.added) ∙ ap unmarked (sym a.split) ∙ a.same in
         subst (λ l. length (unmarked cs) ≤ length l) all (omega (arith, length-append (unmarked cs) (unmarked a.added)))
 
--- a tree in which each template name that ends the name `t` is never referred to
+-- a tree around the name `t` in which no template name that ends `t` is ever referred to
 abbrev around_it : Term → Term
 around_it t = local absent t None
 

@@ -1,4 +1,4 @@
--- Spellings add only what is among the components, if the components that they are made from are there.
+-- Spellings add only what is among the components, if the components that they are made from are among them.
 use Rattle.cpp_press_laws.proofs.Basics.{◌≡◌, ℕ, ◌+◌, ◌<◌, ◌≤◌, ◌⊎◌, inl, inr, length, List, [], ◌∷◌, ◌++◌, Option, Some, None, Bool, true, false, refl, ap, arith, sym, subst, ◌∙◌, append_assoc, append-nil, codes, true≢false, ◌and◌, text, Term, is_open, Component, Spelling, first_equal, reference, ended, spelled_out, referred, component, in_N_and_E, template_before, begun}
 use Rattle.sym_spell.specs.Pressing as spell
 use Rattle.cpp_press_laws.proofs.Components.Parts.{IsComponent, Has, has-before, has-either, has-closed, same-means}
@@ -22,8 +22,8 @@ pub record AddsKnown (open_ : Type 0) (n start : ℕ) (components : List Compone
   pub split : pressed.components ≡ components ++ added
   pub each : AreKnown open_ n start components added
 
--- a spelling adds only known components at each place of an encoding; `KeepsBehind` says it of each place after the encoding's
--- first byte
+-- a spelling adds only known components at each place of an encoding; `KeepsBehind` says the same of each place after the
+-- encoding's first byte
 abbrev pub KeepsTo : (open_ : Type 0) → (n : ℕ) → (R : Term → Type 0) → Spelling → Type 0
 KeepsTo open_ n R spelling =
     (place : ℕ) (components : List Component) → n ≤ place → Stands open_ n R components
@@ -39,7 +39,7 @@ KeepsBehind open_ n R spelling =
 stands-more : (open_ : Type 0) (n : ℕ) (R : Term → Type 0) (cs ds : List Component) → Stands open_ n R cs → Stands open_ n R (cs ++ ds)
 stands-more open_ n R cs ds stands x is may = has-before n x cs ds (stands x is may)
 
--- a tree that is among known components, added after others, is among those others
+-- a tree among known components that are added after others is among those others
 pub known-has : (open_ : Type 0) (n start : ℕ) (cs ds : List Component) (x : Term) → AreKnown open_ n start cs ds → IsComponent x
     → (is_open x ≡ false) ⊎ open_ → Has n x ds → Has n x cs
 known-has open_ n start cs [] x each is may has = absurd has

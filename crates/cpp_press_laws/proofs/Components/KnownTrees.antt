@@ -1,5 +1,5 @@
 -- Pressing a tree again adds nothing: if the components that its spelling is made from are among the components, so is what
--- the spelling adds, except for components with free parameters in an encoding of their own.
+-- the spelling adds. Components with free parameters in an encoding of their own are excepted.
 use Rattle.cpp_press_laws.proofs.Basics.{◌≡◌, ℕ, ◌-◌, ◌<◌, ◌⊎◌, inl, inr, length, List, [], ◌∷◌, ◌++◌, Option, Bool, true, false, refl, arith, ◌&&◌, codes, cond, ◌and◌, text, nothing, Term, symbol, function, object, special, thunk, of_name, construction, clone, alone, in_std, within, instance, local, holder, tagged, of_default, abbreviation, parameter, source, operator, literal_operator, constructor, destructor, inheriting, lambda, generic_lambda, unnamed, string_literal, conversion, builtin, sized_float, constrained, vendor, pointer, lvalue, rvalue, array, bounded, member_pointer, function_type, qualified, vector, complex, decltype, expansion, integer, boolean, null_pointer, encoding_literal, address_of, operation, function_parameter, pack, nil, list, absent, adjusting, covariant, Thunk, enumeration, bindings, declaring, is_open, without_tags, counted, ordinal, signed_text, qualifier_letters, mark_letter, name_letters, special_code, thunk_text, discriminator_text, Spelling, ended, component, Ways, no_ways, type_ways, function_text, in_N_and_E, with_letters, name_ways, template_before, is_operator, is_nested, is_one_piece, entity_text, local_text, begun, encoding_ways, piece_ways, argument_ways, ways_of}
 use Rattle.cpp_press_laws.proofs.Ways as way
 use Rattle.cpp_press_laws.proofs.Ways.{Way}
@@ -225,7 +225,7 @@ named-keeps : (open_ : Type 0) (n : ℕ) (R : Term → Type 0) (needs_N : Bool) 
 named-keeps open_ n R true between one = in-N-and-E-keeps open_ n R [] between one
 named-keeps open_ n R false between one = one
 
--- the signature of a lambda with parameters of its own, which is an encoding of its own
+-- the signature of a lambda with parameters of its own; the signature is an encoding of its own
 signature-keeps : (open_ : Type 0) (n : ℕ) (R : Term → Type 0) (t : Term) → ((here : ℕ) → WaysKeep ⊥ here (OrOpen R) t (ways_of here t))
     → In (λ x. Shut (Inside t x) x) R → KeepsBehind open_ n R (begun (λ here. (ways_of here t).as_parameters))
 signature-keeps open_ n R t one h =

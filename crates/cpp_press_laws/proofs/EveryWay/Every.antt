@@ -73,7 +73,7 @@ pub record OnePiece (around : Around) (allowed : Option ℕ) (t : Term) (place :
 
 -- ## The ways of a tree
 
--- what is spelled is read, if it fits and has room
+-- a spelling is read if it fits and has room
 abbrev pub Leads : (ℕ → Spelling) → Fitting → (Around → Option ℕ → (place : ℕ) → List Component → Written → Type 0) → Type 0
 Leads spelled fits reads =
     (around : Around) (allowed : Option ℕ) (place : ℕ) (cs : List Component) → IsSmall around → HasRoom (spelled around.encoding place cs)

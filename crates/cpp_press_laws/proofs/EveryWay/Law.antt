@@ -1,4 +1,5 @@
--- The pressed spelling of each tree that fits is read as the tree, and that of each symbol as the symbol.
+-- The pressed spelling of each tree that fits is read as that tree, and the pressed spelling of each symbol is read as
+-- that symbol.
 use Rattle.cpp_press_laws.proofs.Basics.{◌≡◌, ℕ, ◌+◌, inl, length, List, [], ◌∷◌, ◌++◌, Option, Some, None, true, false, Ok, refl, ap, sym, subst, ◌∙◌, arith, length-append, ◌>>=◌, ◌and◌, text, SYMBOL, codes, Term, symbol, function, object, special, thunk, of_name, construction, clone, alone, in_std, within, instance, local, holder, tagged, of_default, abbreviation, parameter, source, operator, literal_operator, constructor, destructor, inheriting, lambda, generic_lambda, unnamed, string_literal, conversion, builtin, sized_float, constrained, vendor, pointer, lvalue, rvalue, array, bounded, member_pointer, function_type, qualified, vector, complex, decltype, expansion, integer, boolean, null_pointer, encoding_literal, address_of, operation, function_parameter, pack, nil, list, absent, enumeration, bindings, declaring, Around, nothing_there, tree, tree_of, text_of, first_around, first_state, first_tree, unfold_cpp, Component, components_of, ways_of, no_ways, piece_ways, pressed, AreReadAs, Written, written, ReadsAt, Is, HasRoom, IsSmall, begins_name, SymbolFits, fits_of}
 use Rattle.sym_shape.specs.declared.rule.Sym.TheVariants.{Kind as OfKind}
 use Rattle.cpp_grammar.specs.Values as value

@@ -1,4 +1,4 @@
--- Names of a piece, alone and after St, are read in each of their ways.
+-- Names of a piece alone are read in each of their ways, and names after the letters of an encoding.
 use Rattle.cpp_press_laws.proofs.Basics.{◌≡◌, ℕ, ◌+◌, length, List, [], ◌∷◌, ◌++◌, Option, Bool, true, false, refl, ap, arith, sym, subst, ◌∙◌, append_assoc, length-append, cond, codes, TakesRule, ◌and◌, text, Kind, Production, COMPLETE_NAME, ARGUMENT_LIST, abi, rule_of, Qualifiers, RefQualifier, any_value, lvalue_only, rvalue_only, explicit_object, Term, alone, instance, outermost, Around, Value, tree, named, tree_of, qualifiers_of, ref_of, unqualified, is_function_type, extended, inside, qualifier_letters, mark_letter, name_letters, Component, Spelling, ended, component, ways_of, no_ways, name_ways, with_letters, in_N_and_E, template_before, Written, written, ReadsAt, Is, HasRoom, Slot, any_type, bare_type, item_type, parameter_type, literal_type, Fitting, as_component, one_piece, names_type, names_function, begins_name, IsAbiMark, IsWithoutLetters, by_letters, fits_nowhere, fits_of}
 use Rattle.sym_shape.specs.declared.rule.Sym.TheVariants.{Kind as OfKind}
 use Rattle.cpp_press_laws.proofs.ReadBack.Reading.{takes-byte, more, elsewhere, grammar, same-written}
@@ -101,7 +101,7 @@ nested-room letters name place cs room =
     room-first name (text (codes "E")) (place + length (codes "N" ++ letters)) cs (keeps-text _)
     (room-rest (text (codes "N" ++ letters)) (name and text (codes "E")) place cs room)
 
--- an encoding's own name: without letters it is spelled out, and after letters between N and E
+-- an encoding's own name: without letters it is spelled out, and after letters it is between N and E
 pub name-by-letters : (around : Around) (allowed : Option ℕ) (t : Term) (q : Qualifiers) (ref : RefQualifier) → IsAbiMark ref → (place : ℕ)
     (cs : List Component)
     (own between : Spelling) (fit_own fit_between : Fitting) → HasRoom (with_letters (name_letters q ref) own between place cs)

@@ -151,7 +151,7 @@ reads-vendor name =
     solid-in-all slot around allowed (vendor name) place cs (written (117 ∷ counted name) cs) h.0 refl
     (vendor-solid around allowed name place cs h.1))
 
--- before its arguments, a name with an equal component before it is a reference
+-- a name before arguments is a reference if an equal component comes before it
 found-before : (n : ℕ) (own : Term) (needs_N : Bool) (between spelling arguments : Spelling) (place : ℕ) (cs : List Component)
     → (first_equal n own 0 cs ≡ None → ⊥)
     → template_before n own needs_N between arguments place cs ≡ (component n own spelling and arguments) place cs

@@ -170,7 +170,7 @@ expansion-fits around a old mid one =
           });
     })
 
--- what fits in some slots fits in fewer of them
+-- a tree that fits in some slots fits in each smaller set of them
 pub fewer-slots : (takes less : Slot → Bool) (around : Around) (v : Value) (old new : State)
     → ((slot : Slot) → less slot ≡ true → takes slot ≡ true) → SolidFits takes around v old new → SolidFits less around v old new
 fewer-slots takes less around v old new more one = record {

@@ -50,7 +50,7 @@ items-moved scope other packs own (list first rest) none items = (
 items-moved scope other packs own (symbol e suffix) none items = absurd items
 items-moved scope other packs own t none items = absurd items
 
--- a function type that may be spelled again in one scope may be in another, if it names no packs there
+-- a function type that may be spelled again in one scope may be spelled again in another, if it names no packs there
 pub stands-moved : (scope other : Option Term) (t : Term) → NoPacks other t → FunctionStands scope t → FunctionStands other t
 unfolding is_open
 stands-moved scope other (function_type c_linkage noexcept ref returned parameters) none stands = (
@@ -112,8 +112,8 @@ among-last : (read n : ℕ) (olds more : List Candidate) (ds : List Component) �
 among-last read n [] more ds among = among
 among-last read n (c ∷ cs) more ds among = among-last read n cs more ds among.1
 
--- After an encoding, the candidates from before it are still among the components, and so are those from inside it that have no
--- free parameters.
+-- After an encoding, the candidates from before it are still among the components, and so are the candidates from inside it
+-- that have no free parameters.
 among-outer : (read n at place : ℕ) (olds more : List Candidate) (cs ds : List Component) → ((m : ℕ) (x : Term) → Has m x cs → Has m x ds) → AllAfter read more
     → StandAmong read n olds cs → StandAmong at place (olds ++ more) ds → StandAmong read n (olds ++ more) ds
 among-outer read n at place olds more cs ds keeps later before inner = (

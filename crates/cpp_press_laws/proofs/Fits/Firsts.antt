@@ -24,7 +24,7 @@ component-apart _ is = first_of (cc, search is)
 twice : {may stands : Type 0} {one other : Type 0} → may → (stands → ⊥) → (may × (stands → one)) × (may × (stands → other))
 twice may never = ((may, λ stands. absurd (never stands)), (may, λ stands. absurd (never stands)))
 
--- a component that comes before fits as a prefix, and as a template name whose arguments end a prefix
+-- an earlier component fits as a prefix, and as a template name whose arguments end a prefix
 prefix-again : (t : Term) → IsComponent t → (around : Around) (allowed : Option ℕ) → MayBeReferred around allowed t → (place : ℕ)
     (cs : List Component) → Has around.encoding t cs
     → (fits_of t).as_prefix around allowed place cs × (fits_of t).as_prefix_template around allowed place cs
@@ -74,7 +74,7 @@ parameter-so-far outer k old new named bare =
     let one = (parameter-fits (λ slot. true) outer k old new named bare).types any_type tt refl in
     record { apart = λ n place cs front. refl; prefix = one; template = one }
 
--- where a name between N and E begins: nothing is named so far, or the encoding that is its scope
+-- where a name between N and E begins, only the encoding that is its scope is named so far, or nothing
 abbrev pub BeginsName : Around → Type 0
 BeginsName around = (around.prefix ≡ outermost) ⊎ ((e : Term) × (is_encoding e ≡ true) × (around.prefix ≡ behind e true))
 

@@ -107,7 +107,7 @@ function-spelled around c_linkage noexcept ref good a b old mid new one other =
     (λ n allowed. may-as-two (pressed_at n around) allowed a b t refl (λ arguments. refl))))
     (λ n allowed place cs fits. (fits.0, behind-both (text marks) (s n) (B (pressed_at n around) allowed) place cs fits.1, good))
 
--- a function type, which is no candidate right under qualifiers
+-- a function type, which isn't a candidate right under qualifiers
 pub function-fits : (around : Around) (c_linkage noexcept : Bool) (ref : RefQualifier) → IsAbiMark ref → (a b : Term) (old mid new : State)
     → TypeFits around any_type a old mid → ParametersFit around parameter_type b mid new
     → SolidFits takes_all around (tree (function_type c_linkage noexcept ref a b) false) old new

@@ -1,4 +1,4 @@
--- An entity in the scope of an encoding that was read fits, as a type and as an encoding's own name.
+-- An entity that was read in the scope of an encoding fits, as a type and as an encoding's own name.
 use Rattle.cpp_press_laws.proofs.Basics.{ℕ, ◌+◌, inr, List, [], Option, true, refl, ap, ◌∙◌, codes, ◌and◌, text, and-assoc, and-assoc-at, Qualifiers, RefQualifier, Term, local, is_open, pack_length, State, behind, Around, appended, after, discriminator_text, Spelling, no_ways, type_ways, entity_text, local_text, ways_of, Fitting, Behind, Slot, Role, in_type, in_name_with, letters_of, IsSpellableDiscriminator, type_fits, fits_nowhere, fits_of}
 use Rattle.cpp_press_laws.proofs.Components.Parts.{Whole}
 use Rattle.cpp_press_laws.proofs.Components.KnownTrees.{keeps}

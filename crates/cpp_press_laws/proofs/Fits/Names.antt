@@ -1,4 +1,5 @@
--- A name that was read piece by piece fits: a longer name fits if what comes before its last piece fits, and then the piece.
+-- A name that was read piece by piece fits: a longer name fits if what comes before its last piece fits, and the piece fits
+-- after that.
 use Rattle.cpp_press_laws.proofs.Basics.{◌≡◌, ℕ, ◌+◌, inl, inr, List, [], ◌∷◌, Option, true, false, refl, subst, Bool, codes, ◌and◌, text, and-assoc-at, Term, alone, in_std, within, instance, is_open, pack_length, State, Prefix, outermost, behind, Around, by_all, appended, after, inside, Component, Spelling, ended, component, no_ways, name_ways, ways_of, Fitting, as_component, begins_name, names_function, names_member, fits_of, MayBeReferred}
 use Rattle.sym_spell.specs.Pressing as spell
 use Rattle.cpp_press_laws.proofs.Components.Parts.{IsComponent, Inside, Whole, prefix-whole}
@@ -27,7 +28,8 @@ having prefix around = record {
   showing = around.showing;
 }
 
--- what fits in these surroundings with another prefix fits here, in the form that sets this prefix
+-- what fits in these surroundings with another prefix also fits in these surroundings themselves, if its fitting sets
+-- that prefix
 pub moved : (around : Around) (prefix : Prefix) {F : Fitting} {s : ℕ → Spelling} {t : Term} {old new : State}
     → Fitted (having prefix around) F s t old new → Fitted around (λ inner. F (having prefix inner)) s t old new
 moved around prefix one = record {
@@ -64,7 +66,7 @@ respelled {around} {F} {s} {r} {t} {old} {new} one same = record {
       });
 }
 
--- what fits becomes a component without more bytes, and a candidate
+-- a tree that fits becomes a component without more bytes, and a candidate
 pub ended-fitted : {k : ℕ} {around : Around} {t : Term} {F : Fitting} {s : ℕ → Spelling} {old new : State} → Fitted around F s t old new
     → IsComponent t → FunctionStands around.scope t
     → ((n : ℕ) (allowed : Option ℕ) (place : ℕ) (cs : List Component) → F (pressed_at n around) allowed place cs

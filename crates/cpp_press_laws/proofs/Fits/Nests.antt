@@ -1,4 +1,4 @@
--- A name between N and E that was read fits in each of its ways: as a type, as an encoding's own name, as an entity and as a prefix.
+-- A name that was read between N and E fits in each of its ways: as a type, as an encoding's own name, as an entity and as a prefix.
 use Rattle.cpp_press_laws.proofs.Basics.{◌≡◌, ℕ, ◌+◌, inl, inr, length, List, [], ◌∷◌, ◌++◌, Option, Bool, true, false, refl, ap, sym, subst, arith, codes, Qualifiers, RefQualifier, Term, in_std, within, instance, State, Around, appended, is_function_type, name_letters, Component, Spelling, no_ways, name_ways, in_N_and_E, with_letters, is_operator, is_encoding, is_one_piece, entity_text, ways_of, Fitting, Slot, Role, letters_of, by_letters, fits_of}
 use Rattle.cpp_press_laws.proofs.Components.Parts.{IsComponent, Whole}
 use Rattle.cpp_press_laws.proofs.Components.Known.{KeepsTo, in-N-and-E-keeps}
@@ -49,7 +49,7 @@ unfolding by_letters with_letters
 letters-fitted [] one other = one
 letters-fitted (l ∷ ls) one other = nested-fitted (l ∷ ls) other
 
--- an entity of more than a piece
+-- an entity of more than one piece
 nested-entity : (around : Around) (t : Term) (role : Role) (old now : State) → Wherever around old (is_one_piece t ≡ false)
     → ((n : ℕ) (allowed : Option ℕ) (place : ℕ) (cs : List Component)
     → (fits_of t).between (pressed_at n around) allowed (place + length (codes "N" ++ letters_of role)) cs

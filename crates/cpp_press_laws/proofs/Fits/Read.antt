@@ -1,4 +1,5 @@
--- What it means for a tree that was read to fit: it can be spelled wherever the reader's candidates are among the components.
+-- What fitting means for a tree that was read: the tree can be spelled wherever the reader's candidates are among the
+-- components.
 use Rattle.cpp_press_laws.proofs.Basics.{◌≡◌, ℕ, ◌+◌, ◌≤◌, ◌⊎◌, length, List, [], ◌∷◌, ◌++◌, Option, false, arith, subst, length-append, ◌and◌, text, Term, is_open, Candidate, State, Around, by_all, appended, Component, Spelling, component, Standing, Fitting, Behind, as_component, MayBeReferred}
 use Rattle.sym_spell.specs.Pressing as spell
 use Rattle.cpp_press_laws.proofs.Components.Parts.{IsComponent, Whole}
@@ -7,7 +8,7 @@ use Rattle.cpp_press_laws.proofs.Components.Complete.{Complete, StandAmong, Allo
 use Rattle.cpp_press_laws.proofs.Fits.Packs.{StayNamed}
 use Rattle.cpp_press_laws.proofs.Components.Again.{FunctionStands}
 
--- the surroundings of a part in pressed bytes: only the place of the encoding is another one
+-- the surroundings of a part in pressed bytes: only the place of the encoding differs
 abbrev pub pressed_at : (encoding : ℕ) → Around → Around
 pressed_at n around = record {
   scope = around.scope;
@@ -31,7 +32,7 @@ pub record Front (around : Around) (n place : ℕ) (cs : List Component) (old : 
   pub among : StandAmong around.encoding n old.candidates cs
   pub functions : FunctionsStand around.scope around.encoding old.candidates
 
--- a part with this tree fits there, and after its spelling the candidates are among the components
+-- a part with this tree fits at the place, and after its spelling the candidates are among the components
 pub record PartFits (around : Around) (F : Fitting) (spelled : ℕ → Spelling) (t : Term) (n : ℕ) (allowed : Option ℕ) (place : ℕ)
     (cs : List Component) (new : State) : Type 0 where
   pub fits : F (pressed_at n around) allowed place cs
@@ -110,7 +111,7 @@ refitted one more = record {
       });
 }
 
--- what fits with one tree fits with another tree that may be referred to wherever the first tree may
+-- what fits with one tree fits with another tree that may be referred to wherever the first tree may be
 pub fitted-as : {around : Around} {F : Fitting} {s : ℕ → Spelling} {a t : Term} {old new : State} → Fitted around F s a old new
     → ((n : ℕ) (allowed : Option ℕ) → MayBeReferred (pressed_at n around) allowed a → MayBeReferred (pressed_at n around) allowed t)
     → Fitted around F s t old new
@@ -187,7 +188,7 @@ fitted-bytes bytes one = record {
 
 -- ## Components
 
--- What is spelled out of parts that fit becomes a component, and a candidate.
+-- A tree that is spelled out of parts that fit becomes a component, and a candidate.
 pub component-fitted : {around : Around} {t : Term} {F : Fitting} {s : ℕ → Spelling} {old new : State} → Fitted around F s t old new
     → IsComponent t → ((n : ℕ) → KeepsTo Unit n (Whole t) (s n))
     → ((n : ℕ) (allowed : Option ℕ) (place : ℕ) (cs : List Component) → F (pressed_at n around) allowed place cs

@@ -205,7 +205,7 @@ component-found n number own s behind place cs is =
     let first : spell.Pressed Component → Spelling = λ w later ds. w in
     ap (λ w. (first w and behind) place cs) (component-is n number own s place cs is)
 
--- what holds after a reference to an earlier component holds after a component that equals it
+-- what holds after a reference to an earlier component also holds after a component that equals the earlier one
 named-behind : (n number : ℕ) (own : Term) (s : Spelling) (G : Standing) (place : ℕ) (cs : List Component) → first_equal n own 0 cs ≡ Some number
     → Behind (reference number) G place cs → Behind (component n own s) G place cs
 named-behind n number own s G place cs is fits =

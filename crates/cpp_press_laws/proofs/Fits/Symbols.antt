@@ -13,7 +13,8 @@ use Rattle.cpp_press_laws.proofs.Fits.Encodings.{AllAfter, AllShut, encoding-fit
 
 -- ## Where encodings are
 
--- old candidates were made in encodings that begin before `at`, and added candidates in encodings that begin after the one around
+-- old candidates were made in encodings that begin before `at`, and added candidates in encodings that begin after the
+-- surrounding one
 pub record StaysBehind (around : Around) (at : ℕ) (old new : State) : Type 0 where
   pub more : List Candidate
   pub grows : new.candidates ≡ old.candidates ++ more

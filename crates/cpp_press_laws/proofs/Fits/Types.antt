@@ -1,4 +1,4 @@
--- A type that was read fits, before it is a candidate and after that.
+-- A type that was read fits, both before and after it becomes a candidate.
 use Rattle.cpp_press_laws.proofs.Basics.{◌≡◌, ℕ, ◌+◌, inl, inr, length, List, ◌++◌, Option, Some, None, Bool, true, false, refl, ap, sym, subst, ◌∙◌, ◌&&◌, ◌||◌, codes, Decimal, Digits, ◌and◌, text, Qualifiers, Term, pointer, lvalue, rvalue, array, member_pointer, qualified, vector, complex, is_open, first_of, pack_length, State, Around, Value, tree, tree_of, is_listed, appended, is_function_type, with_type, with_unqualified, packs_in, qualifier_letters, Component, Spelling, component, type_ways, no_ways, ways_of, AreSpellableDigits, Fitting, Behind, as_component, Slot, any_type, bare_type, item_type, parameter_type, literal_type, takes_all, takes_qualified, has_letters, type_fits, fits_nowhere, fits_of, PacksFit, MayBeReferred}
 use Rattle.cpp_press_laws.proofs.Components.Parts.{IsComponent, Whole}
 use Rattle.cpp_press_laws.proofs.Components.Known.{KeepsTo, text-keeps, and-keeps}
@@ -28,7 +28,7 @@ unfolding packs_in first_of
 packs-of-two None a b t same = refl
 packs-of-two (Some arguments) a b t same = same arguments
 
--- a tree may be referred to where another one with the same free parameters and packs may
+-- a tree may be referred to where another one with the same free parameters and packs may be
 pub may-as : (around : Around) (allowed : Option ℕ) (a t : Term) → is_open t ≡ is_open a
     → ((arguments : Term) → pack_length arguments t ≡ pack_length arguments a)
     → MayBeReferred around allowed a → MayBeReferred around allowed t
@@ -41,7 +41,7 @@ both-shut : (a b c : Bool) → a && c ≡ false → b && c ≡ false → (a || b
 both-shut true b c one other = one
 both-shut false b c one other = other
 
--- a tree may be referred to where two others may that together have its free parameters and packs
+-- a tree may be referred to where two others may be, if these together have its free parameters and packs
 pub may-as-two : (around : Around) (allowed : Option ℕ) (a b t : Term) → is_open t ≡ (is_open a || is_open b)
     → ((arguments : Term) → pack_length arguments t ≡ first_of (pack_length arguments a) (pack_length arguments b))
     → MayBeReferred around allowed a → MayBeReferred around allowed b → MayBeReferred around allowed t
@@ -63,11 +63,12 @@ may-closed around allowed t closed = record {
 abbrev pub TypeFits : (around : Around) → Slot → Term → (old new : State) → Type 0
 TypeFits around slot t old new = Fitted around ((fits_of t).as_type slot) (λ n. (ways_of n t).as_type) t old new
 
--- a type fits right under qualifiers
+-- a type fits directly under qualifiers
 abbrev pub BareFits : (around : Around) → Term → (old new : State) → Type 0
 BareFits around t old new = Fitted around ((fits_of t).as_type bare_type) (λ n. (ways_of n t).under_qualifiers) t old new
 
--- A type fits in some slots, and right under qualifiers. It becomes a candidate in different ways there, so the states differ.
+-- A type fits in some slots, and directly under qualifiers. It becomes a candidate differently in these two cases, so the
+-- states after it differ.
 pub record SolidAs (takes : Slot → Bool) (around : Around) (t : Term) (as_type : Slot → Fitting) (typed under : ℕ → Spelling)
     (old listed bared : State) : Type 0 where
   pub types : (slot : Slot) → IsNotBare slot → takes slot ≡ true → Fitted around (as_type slot) typed t old listed

@@ -23,7 +23,7 @@ pub item-as-first : {around : Around} {allowed : Option ℕ} {Q : Value → Type
     → ReadsAt around allowed (OfKind ITEM) Q place cs w → ReadsAt around allowed (OfKind FIRST_OF_LAMBDA) Q place cs w
 item-as-first {around} {place} one = reshaped (λ t is. let a = abi_first t is in (a.tree, a.spells, a.is, a.says around place)) one
 
--- one more item before others: a type here, and below an argument or an element of a pack
+-- one more item before others: a type here, and further below an argument or an element of a pack
 pub items-more : (around : Around) (allowed : Option ℕ) (t items : Term) (last : Value) (place : ℕ) (cs : List Component) (first rest : Written)
     → no_items last ≡ items
     → ReadsAt around allowed (OfKind ITEM) (Is (tree t true)) (place + 0) cs first
@@ -62,7 +62,7 @@ abbrev pub listed_now : Around → Bool → List Component → Term → List Com
 listed_now around true cs t = cs
 listed_now around false cs t = more around cs t
 
--- arguments after a name, which becomes a component before them if it isn't a component yet
+-- arguments after a name; the name becomes a component before them, if it isn't one yet
 pub arguments-read : (listed : Bool) (around : Around) (allowed : Option ℕ) (k : ℕ) (t items : Term) (last : Value) (place : ℕ)
     (cs : List Component) (w : Written) → TakesRule abi k (rule_of Production.Arguments) (73 ∷ []) → no_items last ≡ items
     → ReadsAt (inside around) allowed (OfKind ARGUMENT_LIST) (Is last) (place + 1) (listed_now around listed cs t) w
@@ -83,7 +83,7 @@ takes-maybe-arguments = takes-byte MAYBE_ARGUMENTS Kind.MaybeArguments Productio
 
 -- ## Expansions
 
--- What is under an expansion names packs of one length, whatever packs are named around it.
+-- The pattern of an expansion names packs of one length, whatever packs are named around the expansion.
 pub expansion-reads : (around : Around) (allowed inner : Option ℕ) (t : Term) (place : ℕ) (cs : List Component) (w : Written)
     → ReadsAt (under_expansion around) inner (OfKind TYPE) (Is (tree t true)) (place + 1) cs w
     → ReadsAt around allowed (OfKind ITEM_AFTER_D) (Is (tree (expansion t) false)) place cs (written (112 ∷ w.bytes) w.components)

@@ -11,7 +11,8 @@ use Rattle.cpp_press_laws.proofs.ReadBack.Solids.{reference, reference_letter}
 
 -- ## Parameters
 
--- a parameter that is allowed: it names an argument of the scope, and if that is a pack, its length is allowed
+-- a parameter that is allowed: it names an argument of the scope, and if the argument is a pack, the pack's length is
+-- allowed
 pub record IsInScope (around : Around) (allowed : Option ℕ) (k : ℕ) : Type 0 where
   pub arguments : Term
   pub scoped : around.scope ≡ Some arguments
@@ -104,7 +105,7 @@ unfolding is_chain parts_of close unfolding_.behind meaning byte_of
 mark-reads {k} {byte} kind at chosen small =
     read-by-parts Production.Mark k (byte ∷ []) [] [] (takes-byte k kind Production.Mark byte at chosen small refl) tt refl (λ began s. refl)
 
--- a mark that is there or not
+-- a mark, if there is one
 abbrev pub mark_value : Bool → (byte : ℕ) → Value
 mark_value true byte = letter byte
 mark_value false byte = nothing_there

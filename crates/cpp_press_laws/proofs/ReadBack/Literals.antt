@@ -124,7 +124,7 @@ pack-argument around allowed elements items inside_ last place cs first rest are
 
 -- ## Addresses
 
--- an encoding between L and E, whose address is taken, after an X and before an E
+-- the address of an encoding: the encoding is between L and E, and the whole is between X and E
 pub address-reads : (around : Around) (allowed : Option ℕ) (e : Term) (place : ℕ) (cs : List Component) (w : Written)
     → ReadsAt around allowed (OfKind ENCODING) (Is (tree e true)) (place + 1 + 1 + 1 + 1 + 1 + 1) cs w
     → ReadsAt around allowed (OfKind ARGUMENT) (Is (tree (address_of e) true)) place cs

@@ -8,7 +8,7 @@ use Rattle.cpp_press_laws.proofs.ReadBack.Reading.{takes-byte, closes-same, prod
 use Rattle.cpp_press_laws.proofs.ByKind.LeafKinds.{digits-behind}
 use Rattle.sym_shape.specs.Tree.{Tree as Shape, Forest, grown, fixed, token, nothing}
 
--- the digits of a lambda or an unnamed type have its number as their value, if it has 64 bits
+-- the digits of a lambda or an unnamed type denote its number, if the number has 64 bits
 number-kept : (j : ℕ) → j < greatest → local_number (ordinal_digits j) ≡ j + 1
 unfolding local_number
 number-kept j small = ap (λ n. n + 1) (ordinal-value j (omega (arith, small)))

@@ -1,4 +1,5 @@
--- Pieces of names are read wherever names are: as a name with arguments or without, after St, and as the first of a name between N and E.
+-- Pieces of names are read wherever names are: as a name with arguments or without, after St, and as the first piece of a name between N
+-- and E.
 use Rattle.cpp_press_laws.proofs.Basics.{◌≡◌, ℕ, ◌+◌, ◌-◌, ◌<◌, length, List, [], ◌∷◌, ◌++◌, Option, Some, Bool, true, false, ◌⊎◌, inl, inr, refl, ap, arith, sym, subst, ◌∙◌, append_assoc, ltb-true, cond, codes, nat_lt, ◌^◌, TakesRule, Kind, Production, COMPLETE_NAME, UNQUALIFIED, COMPONENT, ENTITY, TYPE_ENTITY, ANONYMOUS, ITEM, SOLID, SOURCE_OR_LOCAL, ITEMS, LITERAL_TYPE, OPERATOR, OTHER_OPERATOR, choose, kinds, abi, rule_of, Term, source, operator, literal_operator, constructor, destructor, lambda, unnamed, list, Around, Value, tree, piece, in_signature, extended, no_items, parameters, Component, counted, ordinal, IsSpellableName, IsOperator, greatest, Written, written, ReadsAt, Is, begins_name, names_type, names_function, names_member, IsLocalNumber}
 use Rattle.sym_shape.specs.declared.rule.Sym.TheVariants.{Kind as OfKind}
 use Rattle.cpp_press_laws.proofs.ReadBack.Reading.{takes-none, takes-byte, elsewhere, grammar, same-written}

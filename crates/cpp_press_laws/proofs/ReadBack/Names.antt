@@ -28,7 +28,7 @@ pub rest-or-end : {around : Around} {allowed : Option ℕ} {Q : Value → Type 0
     → ReadsAt around allowed (OfKind NEST_REST) Q place cs w → ReadsAt around allowed (OfKind NEST_REST_OR_END) Q place cs w
 rest-or-end {around} {place} one = reshaped (λ t is. let r = abi_rest t is in (r.tree, r.spells, r.is, r.says around place)) one
 
--- a name of a piece and what follows it
+-- a name of this piece, and what follows the name
 abbrev pub NamesAt : Around → Option ℕ → (k : ℕ) → (p : Term) → (place : ℕ) → List Component → Written → Type 0
 NamesAt around allowed k p place cs w =
     (last : Value) (rest : Written)
@@ -124,8 +124,9 @@ SoFar around allowed t listed k place cs w =
     (v : Value) (rest : Written) → ReadsAt (after t listed around) allowed (OfKind k) (Is v) (place + length w.bytes) w.components rest
     → ReadsAt around allowed (OfKind NEST) (Is v) place cs (written (w.bytes ++ rest.bytes) rest.components)
 
--- A prefix that is a component: a piece is read after it as a longer name, and then the rest. The piece is read alike
--- whether the prefix is a candidate already or becomes one before the piece.
+-- A prefix that is a component: if the piece after it is read as a longer name, and then the rest is read, the whole is
+-- read as the rest is. The piece must be read alike whether the prefix is a candidate already or becomes one before the
+-- piece.
 abbrev pub Extends : Around → Option ℕ → (t : Term) → (place : ℕ) → List Component → Written → Type 0
 Extends around allowed t place cs w =
     (u : Term) (v : Value) (one rest : Written)

@@ -1,4 +1,4 @@
--- What begins a name between N and E, and arguments within it, are read as what was pressed.
+-- The beginning of a name between N and E, and the arguments within the name, are read as what was pressed.
 use Rattle.cpp_press_laws.proofs.Basics.{◌≡◌, ℕ, ◌+◌, length, List, [], ◌∷◌, ◌++◌, Option, Bool, true, false, refl, ap, arith, sym, subst, ◌∙◌, append_assoc, length-append, Kind, Production, UNQUALIFIED, NEST, NEST_AFTER_S, NEST_REST, NEST_TAIL, COMPONENT, ABBREVIATION, ANONYMOUS, MAYBE_ARGUMENTS, ARGUMENT_LIST, NEST_REST_ALONE, Term, source, in_std, instance, parameter, prefix_tree, prefix_listed, Around, Value, nothing_there, tree, piece, part, appended, with_prefix, parameter_named, after, inside, extended, applied, no_items, named_so_far, listed_so_far, parameter_so_far, Component, counted, ordinal, IsSpellableName, Written, written, ReadsAt, Is}
 use Rattle.sym_shape.specs.declared.rule.Sym.TheVariants.{Kind as OfKind}
 use Rattle.cpp_grammar.specs.Values as value

@@ -1,4 +1,4 @@
--- What it means that a spelling is read, and how a production is read from its parts.
+-- What it means for a spelling to be read, and how a production is read from its parts.
 use Rattle.cpp_press_laws.proofs.Basics.{◌≡◌, ℕ, ◌+◌, ◌<◌, length, List, [], ◌∷◌, ◌++◌, Option, Some, true, false, Ok, refl, ap, sym, subst, ◌∙◌, append-nil, Err, slice_get, not, if◌then◌else◌, Sym, NumberKind, Token, bytes_of, IsNumberToken, Tree as Shape, Forest, branch, empty, token, fixed, grown, spell, spell_all, TakesRule, IsTree, AreTrees, unfold_tree, unfold_forest, found, standing, Kind, Production, ARGUMENT_LIST, ARGUMENTS_FIRST, in_ranges, among, is_in, pick, number_of_kind, alternatives, kinds, choose, parts_of, is_chain, may_be_empty, abi, rule_of, rule_taken, Term, appended, Continuation, between, meaning, cpp, opening, close, byte_of, list_first, rule_at_kind, empty_at_kind, at_number, its_symbols, Component, components_of, Written, written, IsAllowed, Reads, ReadsAt, Is, counted, IsSpellableName, AreDigitsOf, Digits}
 use Rattle.sym_shape.specs.declared.rule.Sym.TheVariants.{Kind as OfKind, Name, Number, Byte}
 use Rattle.sym_shape.specs.Tree as shape
@@ -195,7 +195,7 @@ closes-more p byte around allowed place R components v t means values good began
   packs = packs;
 }
 
--- A production is read from its parts. It may test them before it reads them.
+-- A production that may test its parts before it reads them is read from these parts.
 pub production-opened : (p : Production) (k : ℕ) (taken : List ℕ) (around : Around) (allowed inside : Option ℕ) (place : ℕ)
     (R : List Value → Type 0) (Q : Value → Type 0) (start components : List Component) (symbols : List Sym) (parts : Written)
     → TakesRule abi k (rule_of p) taken → parts_of p ≡ symbols
@@ -273,7 +273,7 @@ pub same-written : {around : Around} {allowed : Option ℕ} {symbol : Sym} {Q : 
     → ReadsAt around allowed symbol Q place cs (written bytes after) → ReadsAt around allowed symbol Q place cs (written others after)
 same-written {around} {allowed} {symbol} {Q} {place} {cs} {after} same = subst (λ l. ReadsAt around allowed symbol Q place cs (written l after)) same
 
--- what is read at a place is read at an equal one
+-- what is read at a place is also read at an equal place
 pub elsewhere : {around : Around} {allowed : Option ℕ} {symbol : Sym} {Q : Value → Type 0} {place other : ℕ} {cs : List Component} {w : Written}
     → place ≡ other → ReadsAt around allowed symbol Q place cs w → ReadsAt around allowed symbol Q other cs w
 elsewhere {around} {allowed} {symbol} {Q} {place} {other} {cs} {w} same =

@@ -1,4 +1,4 @@
--- Types are read wherever types are, as references and spelled out.
+-- Types are read wherever types may be, both as references and spelled out.
 use Rattle.cpp_press_laws.proofs.Basics.{◌≡◌, ℕ, ◌+◌, ◌≤◌, length, List, [], ◌∷◌, ◌++◌, Option, Some, None, Bool, true, false, refl, arith, sym, subst, append-nil, length-append, ◌∙◌, ◌&&◌, TakesRule, ◌and◌, Kind, Production, ABBREVIATION, TYPE, PLAIN, ITEM, ITEM_BUT_REF, SOLID, LITERAL, LITERAL_TYPE, abi, rule_of, RefQualifier, Signed, Term, integer, list, Around, tree, is_function_type, signed_text, Component, Spelling, first_equal, seq_id, reference, ended, spelled_out, component, IsSpellableNumber, greatest, Written, written, ReadsAt, Is, HasRoom, Slot, any_type, bare_type, item_type, parameter_type, literal_type, IsFirst, Fitting, as_component, MayBeReferred, and-true}
 use Rattle.sym_shape.specs.declared.rule.Sym.TheVariants.{Kind as OfKind}
 use Rattle.cpp_press_laws.proofs.ReadBack.Reading.{takes-byte, elsewhere, grammar, more}
@@ -67,7 +67,7 @@ ReadsAs literal_type around allowed t place cs w =
     (n : Signed) → IsSpellableNumber n
     → ReadsAt around allowed (OfKind LITERAL) (Is (tree (integer t n) true)) place cs (written (w.bytes ++ signed_text n) w.components)
 
--- in each slot, the kind of the types that have a letter of their own or a name
+-- in each slot, the kind of the types that have either a letter of their own or a name
 abbrev pub solid_kind : Slot → ℕ
 solid_kind literal_type = LITERAL_TYPE
 solid_kind _ = SOLID
@@ -132,7 +132,7 @@ unfoldable pub is_bare : Slot → Bool
 is_bare bare_type = true
 is_bare _ = false
 
--- any type in any slot, except for a function type right under qualifiers
+-- any type in any slot, except for a function type directly under qualifiers
 pub in-slot : (slot : Slot) (around : Around) (allowed : Option ℕ) (t : Term) → is_function_type t && is_bare slot ≡ false
     → InSlot around allowed t (solid_kind slot) (ReadsAs slot around allowed t)
 unfolding is_bare
@@ -150,7 +150,7 @@ BehindS around allowed t reads =
     (place : ℕ) (cs : List Component) (w : Written) → ReadsAt around allowed (OfKind ABBREVIATION) (Is (tree t true)) (place + 1) cs w
     → reads place cs (written (83 ∷ w.bytes) w.components)
 
--- a component is a reference if an equal one comes before, and otherwise its own spelling
+-- a component is spelled as a reference if an equal one comes before, and is otherwise spelled out
 pub component-in : (around : Around) (allowed : Option ℕ) (own : Term) → IsComponent own → (reads : ℕ → List Component → Written → Type 0) (place : ℕ)
     (cs : List Component) (spelling : Spelling) → BehindS around allowed own reads → length cs ≤ greatest → MayBeReferred around allowed own
     → (IsFirst around own cs → reads place cs (written (spelling place cs).bytes (more around (spelling place cs).components own)))

@@ -97,7 +97,7 @@ array-solid around allowed digits t place cs w good one =
 
 -- ## References
 
--- a reference to a type, by whether it is one to an lvalue
+-- an lvalue reference or an rvalue reference to a type
 abbrev pub reference : (to_lvalue : Bool) → Term → Term
 reference true t = lvalue t
 reference false t = rvalue t

@@ -1,4 +1,5 @@
--- Template names before their arguments are read, in types and in encodings' own names: after an S, and spelled out.
+-- Template names that come before their arguments are read, in types and in encodings' own names: after an S, and
+-- spelled out.
 use Rattle.cpp_press_laws.proofs.Basics.{◌≡◌, ℕ, ◌+◌, ◌≤◌, length, List, [], ◌∷◌, ◌++◌, Option, Some, None, Bool, true, false, refl, arith, sym, subst, length-append, TakesRule, ◌and◌, text, codes, Kind, Production, ABBREVIATION, SOLID, MAYBE_ARGUMENTS, ARGUMENTS_ALONE, ARGUMENTS, LITERAL_TYPE, abi, rule_of, Term, instance, parameter, Around, Value, tree, applied, no_items, parameter_so_far, listed_so_far, ordinal, Component, Spelling, first_equal, seq_id, reference, referred, greatest, Written, written, ReadsAt, Is, HasRoom, Slot, any_type, bare_type, item_type, parameter_type, literal_type, names_type, IsFirst, Fitting, as_template, parameter_named}
 use Rattle.sym_shape.specs.declared.rule.Sym.TheVariants.{Kind as OfKind}
 use Rattle.cpp_grammar.specs.Values as value

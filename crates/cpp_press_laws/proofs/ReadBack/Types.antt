@@ -17,7 +17,8 @@ pub record HasTypes (around : Around) (allowed : Option ℕ) (k : ℕ) (t : Term
   pub solid : Wraps around allowed k SOLID [] t
   pub with_d : Wraps around allowed k AFTER_D (68 ∷ []) t
 
--- by a production with one part: whatever state the part is read in, its tree is the value, and becomes a component
+-- a production with one part: in whatever state the part is read, the part's tree is the production's value and becomes
+-- a component
 pub wraps : (p : Production) {around : Around} {allowed : Option ℕ} {k inner : ℕ} {taken : List ℕ} {t : Term} → TakesRule abi k (rule_of p) taken
     → TestsNothing p
     → ((place : ℕ) (cs : List Component) (w : Written)
@@ -95,7 +96,7 @@ types-parameter around allowed t = record {
   with_d = item-wraps around allowed ITEM_BUT_REF t (takes-byte ITEM_BUT_REF Kind.ItemButRef Production.ItemWithD 68 refl refl (omega arith) refl);
 }
 
--- under qualifiers a function type is no component
+-- a function type under qualifiers is no component
 pub types-bare : (around : Around) (allowed : Option ℕ) (t : Term) → is_function_type t ≡ false → HasTypes around allowed PLAIN t
 unfolding grammar listed_value with_unqualified with_type is_listed is_function_type appended
 types-bare around allowed t other = record {

@@ -1,4 +1,4 @@
--- Which components of a symbol pressing compares with those before them, computed.
+-- The components of a symbol that pressing compares with earlier ones, computed.
 use Rattle.cpp_press_laws.proofs.Basics.{◌≡◌, refl, ℕ, Bool, true, cond, ◌&&◌, List, [], ◌∷◌, codes, Some, None, Result, Ok, Err, Refusal, Term, in_ranges, among, is_in, pick, number_of_kind, alternatives, choose, parts_of, is_chain, may_be_empty, kinds, productions, number_of, padded, rule_of, prefix_tree, prefix_listed, tree_of, piece_of, is_listed, qualifiers_of, ref_of, letter_of, is_there, mark_of, text_of, signed_of, adjustment_of, normal, is_zero, signed_digits, local_number, part, count, element, arguments_of, before_arguments, is_structor, has_return_type, is_open, first_of, length_if_pack, pack_length, appended, is_function_type, with_type, with_unqualified, with_prefix, with_packs, packs_in, is_module, substituted, parameter_named, in_name, in_types, in_signature, under_expansion, after, inside, extended, applied, no_items, named_so_far, listed_so_far, parameter_so_far, index_of, between, is_void, is_nil, parameters, encoding_of, listed_value, discriminator_of, with_item, reference_to, signature_or, operator_or_literal, meaning, same_bytes, front_digits, is_length_form, number_at, are_name_bytes, is_own, name_at, shape_of, read_kind, read_symbol, read_all, same_truth, same_qualifiers, same_mark, same_signed, same_adjustment, same_thunk, same_discriminator, same_tree, decimal, counted, ordinal, signed_text, qualifier_letters, mark_letter, name_letters, offset_text, thunk_text, discriminator_text, is_same, first_equal, seq_id, is_operator, is_encoding, is_one_piece, Marked, marked_components}
 use Prim.Native.String.{String}
 use Rattle.cpp_grammar.specs.Standing.{enclosed_argument, ends_arguments, operation_by, operation_or_address, is_code}
@@ -30,8 +30,8 @@ unfoldable pub are_marked : List Row → Bool
 are_marked [] = true
 are_marked (row ∷ rows) = same_bytes (letters_of row.symbol) row.wanted && are_marked rows
 
--- The template name `std::A` is compared in the first parameter, but not in the own name of the function in the second parameter.
--- So the first two components of the first symbol and its last one are equal to none before them.
+-- Pressing compares the template name `std::A` in the first parameter, but not in the second one, where the name is in a
+-- function's own name. So in the first symbol, the first two components and the last one are equal to none before them.
 abbrev pub rows : List Row
 rows =
     compares "_Z1gSt1AIcEZNKSt1AIiEEvvE1x" "ccnc" ∷

@@ -137,7 +137,7 @@ ready-by test prefix each (x ∷ xs) is =
         go None h = absurd (false≢true h)
         go (Some kind) h = each kind h
 
--- what the value of a part needs, and what the part gives back of its loan
+-- what the value of a part needs, and how much of its loan the part gives back
 unfoldable pub cost_of : Sym → Around → Value → State → (bytes : ℕ) → ℕ
 cost_of (OfKind k) around v s bytes =
     elim (slice_get kinds k) [ None ↦ 0 | Some kind ↦ need (class_of kind) around v s + returned (class_of kind) around v ]
@@ -269,7 +269,7 @@ each-part p around place inner P limit still small (x ∷ xs) is bytes vs s cost
     (cost_of x around one.value one.after one.own + cost) (credit_of x around + credit) one.onward known.small
     (omega (arith, few, known.few, one.sum)) (claim one.value one.after one.own known.known)
 
--- The claim about a production: what pays for its parts, and its own byte, pay for its value.
+-- The claim about a production: what pays for its parts, together with its own byte, pays for its value.
 abbrev pub Pays : (ready : Prefix → Type 0) → Production → Class → (granted : ℕ) → Type 0
 Pays ready p c granted =
     (byte : ℕ) (around : Around) (old : State) → ready around.prefix → SmallPrefix around.prefix
@@ -339,7 +339,8 @@ closes-naming p m form row closed byte around at began vs s =
     closes-as p closed byte around at began vs s
     ∙ ap (λ r. Ok (found (meant r.form byte around vs) (state_after r around began (meant r.form byte around vs) vs s))) row
 
--- a production whose first part becomes the name so far: its first part, and its second part, read after that
+-- a production whose first part becomes the name so far: its first part, and its second part, which is read after this
+-- name
 pub record Named (p : Production) (m : Made) (x y : Sym) (around : Around) (place : ℕ) (inner : Found (List Value) State) (old : State) (bytes : ℕ)
     : Type 0 where
   pub value : Value

@@ -1,5 +1,5 @@
--- Each byte that is read pays eight bytes of the pressed spelling. The candidates are worth what was paid for them,
--- and so is a value that isn't a candidate yet.
+-- Each byte that is read pays eight bytes of the pressed spelling. The candidates, and a value that isn't a candidate
+-- yet, are worth what was paid for them.
 use Rattle.cpp_press_laws.proofs.Basics.{◌≡◌, ℕ, ◌+◌, ◌*◌, ◌-◌, ◌≤◌, ◌⊎◌, length, List, [], ◌∷◌, ◌++◌, Bool, true, false, cond, Ok, refl, sym, subst, arith, Tree as Shape, spell, IsTree, found, unfold_tree, Kind, number_of_kind, abi, Term, lvalue_only, is_function_type, appended, with_type, with_prefix, no_items, discriminator_of, signature_or, cpp, signed_text, offset_text, name_letters, discriminator_text, components_of, is_encoding}
 use Rattle.sym_shape.specs.declared.rule.Sym.TheVariants.{Kind as OfKind}
 use Rattle.cpp_grammar.specs.Values.{Candidate, State, Prefix, outermost, behind, Around, prefix_tree, prefix_listed, Value, nothing_there, letter, text, signed, tree, pair, tree_of, piece_of, is_listed, qualifiers_of, ref_of, is_there, adjustment_of, by_all}
@@ -28,8 +28,8 @@ front t = front_of t (size t)
 
 -- The classes of values, by how they are paid for.
 pub data Class : Type 0 where
-  -- a name; a type; a type right under qualifiers; a piece of a name; an encoding; a list; arguments that may come after a name;
-  -- arguments that must come after it
+  -- a name; a type; a type directly under qualifiers; a piece of a name; an encoding; a list; arguments that may come after a
+  -- name; arguments that must come after it
   name : Class
   type : Class
   bare : Class
@@ -206,7 +206,7 @@ loan arguments around = owed around.prefix
 loan given around = owed around.prefix
 loan _ around = 0
 
--- what is given back of the loan for arguments, if there are no arguments
+-- how much of the loan for arguments is given back if there are no arguments
 unfoldable pub returned : Class → Around → Value → ℕ
 returned arguments around v = cond (is_there v) 0 (owed around.prefix)
 returned _ around v = 0
@@ -231,7 +231,7 @@ SmallPrefix outermost = Unit {0}
 SmallPrefix (behind t true) = Unit {0}
 SmallPrefix (behind t false) = IsSmall t
 
--- for `IsBehind`, a name comes before; for `MayEnd`, a name that may end here and is no candidate
+-- for `IsBehind`, a name comes before; for `MayEnd`, this name may also end here and is no candidate
 unfoldable pub IsBehind : Prefix → Type 0
 IsBehind outermost = ⊥
 IsBehind (behind t listed) = is_encoding t ≡ false
@@ -263,8 +263,8 @@ Ready Kind.Abbreviation prefix = Unit {0}
 Ready Kind.Encoding prefix = Unit {0}
 Ready kind prefix = ready_for (class_of kind) prefix
 
--- A name or a type takes at most the bytes of a reference as a part. A function type with a value that is marked as listed is
--- among the candidates.
+-- A name or a type takes at most the bytes of a reference as a part. A function type whose value is marked as listed is among
+-- the candidates.
 unfoldable pub IsKnown : Class → Around → Value → State → Type 0
 IsKnown name around v s = IsSmall (tree_of v) × (is_function_type (tree_of v) ≡ false)
 IsKnown further around v s = IsSmall (tree_of v) × (is_function_type (tree_of v) ≡ false)

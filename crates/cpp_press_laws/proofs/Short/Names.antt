@@ -140,7 +140,7 @@ named-by-row p m x second granted row parts is closed ready given_ pays around a
     paid.other g
     (omega (arith, o.sum, n.sum, n.first.few, paid.few, w.sum, w.onward.1, listed-lent around.prefix))))
 
--- a name that goes on after its first part
+-- a name that continues after its first part
 going-by-row : (p : Production) (m : Made) (x : Sym) → row_of p ≡ naming m (handed 1)
     → parts_of p ≡ x ∷ OfKind (number_of_kind Kind.NestRest) ∷ [] → part_passes (may_be_part true) x ≡ true → refers p ≡ false
     → NamePays p 0 m x → Free p name 0
@@ -268,7 +268,8 @@ nest-template around at old v new b ready small all o =
       small = g1.small;
     })
 
--- what is lent before a name goes on pays for the candidate that the name becomes, and for a reference to it
+-- what is lent before a name continues pays for the candidate that the name becomes, and for a reference to this
+-- candidate
 prefix-lent : (p : Prefix) → IsBehind p → SmallPrefix p → owed p + front (prefix_tree p) ≤ lent p
 unfolding IsBehind SmallPrefix owed lent prefix_tree
 prefix-lent outermost behind small = absurd behind
@@ -402,7 +403,8 @@ nest-end around at old v new b end small all o =
     comes-to (λ w s. Gains name 0 around w old s b) o [] old (tree (prefix_tree around.prefix) (prefix_listed around.prefix)) old o.paid.0 refl
     (end-named around around.prefix old b end small all (omega (arith, o.sum)))
 
--- a parameter was named: the state grew by at most what a parameter is worth, and `G` holds from there
+-- a parameter was named: the state grew by at most what a parameter is worth, and `G` holds of the inputs of the next
+-- part
 pub record ParameterGoes (around : Around) (place k : ℕ) (vs : List Value) (old : State) (G : Next Value State Around → Type 0) : Type 0 where
   pub mid : State
   pub grown : Grown (wealth old + full (parameter k)) mid

@@ -15,7 +15,7 @@ use Rattle.cpp_press_laws.proofs.Short.Names.{parameter-goes}
 
 -- ## Conversions
 
--- what is paid for a name pays for it as a type, if no name comes before it
+-- what is paid for a name also pays for the name as a type, if no name comes before it
 pub as-type : {around : Around} {v : Value} {old new : State} {b : ℕ} → lent around.prefix ≡ 0 → Gains name 0 around v old new b
     → Gains type 0 around v old new b
 unfolding need typed loan returned IsKnown IsKept
@@ -30,7 +30,7 @@ as-type {around} {v} idle g = record {
     most true = omega arith
     most false = full-most (tree_of v)
 
--- what is paid for without a grant is paid for with any grant
+-- whatever is paid for without a grant is also paid for with any grant
 pub granted : {c : Class} {around : Around} {v : Value} {old new : State} {b : ℕ} (g : ℕ) → Gains c 0 around v old new b → Gains c g around v old new b
 granted g one = record { few = omega (arith, one.few); known = one.known; kept = one.kept; small = one.small }
 
@@ -58,7 +58,7 @@ bare-most v f a is among = go (is_listed v) f a is among
     go false true false is h =
         omega (arith, function-part (tree_of v) is, ap (λ g. cond g (1 + size (tree_of v)) (1 + over (size (tree_of v)))) is)
 
--- a type right under qualifiers becomes a candidate, unless it is a function type
+-- a type directly under qualifiers becomes a candidate, unless it is a function type
 bare-here : (around : Around) (v : Value) (s old : State) (b : ℕ) → AllSmall s.candidates → IsKnown type around v s
     → wealth s + typed v ≤ wealth old + 8 * b → Gains bare 0 around (tree (tree_of v) true) old (with_unqualified around v s) b
 unfolding need typed is_listed tree_of loan returned IsKnown IsKept with_unqualified
@@ -91,7 +91,7 @@ bare-here around v s old b all known few = go (is_function_type (tree_of v)) ref
           small = g.small;
         }
 
--- a type that isn't a function type is paid for right under qualifiers, too
+-- a type that isn't a function type is paid for directly under qualifiers, too
 pub as-bare : {around : Around} {v : Value} {old new : State} {b : ℕ} → is_function_type (tree_of v) ≡ false → Gains type 0 around v old new b
     → Gains bare 0 around v old new b
 unfolding need typed loan returned IsKnown IsKept

@@ -1,8 +1,8 @@
 -- How many bytes a spelled-out tree takes, if each component in it is a reference of eight bytes.
 use Rattle.cpp_press_laws.proofs.Basics.{ℕ, ◌+◌, ◌-◌, ◌≤◌, length, List, [], ◌∷◌, arith, cond, Term, symbol, function, object, special, thunk, of_name, construction, clone, alone, in_std, within, instance, local, holder, tagged, abbreviation, parameter, source, operator, literal_operator, constructor, destructor, lambda, unnamed, string_literal, conversion, builtin, sized_float, vendor, pointer, lvalue, rvalue, array, member_pointer, function_type, qualified, vector, complex, expansion, integer, boolean, null_pointer, encoding_literal, address_of, pack, list, generic_lambda, enumeration, is_function_type, is_nil, either_cond, counted, ordinal, signed_text, qualifier_letters, name_letters, thunk_text, discriminator_text, is_component, is_name, is_encoding}
 
--- the bytes of a tree of this size as a part, as a prefix, right under qualifiers, between N and E, as the parameters
--- of a function
+-- the bytes of a tree of this size: as a part, as a prefix, directly under qualifiers, between N and E, or as the
+-- parameters of a function
 unfoldable pub part_of : Term → (own : ℕ) → ℕ
 part_of t own = cond (is_component t) 8 own
 
@@ -99,7 +99,7 @@ pub name-own : (t : Term) (own : ℕ) → name_of t own ≤ own
 unfolding name_of
 name-own t own = either_cond (λ n. n ≤ own) (is_name t) own 0 (λ h. omega arith) (λ h. omega arith)
 
--- as an encoding's own name, a tree takes at most its bytes as a part, and the bytes of the name beyond a reference
+-- between N and E, a tree takes at most the bytes that it takes as a part, plus those that it takes there beyond the eight of a reference
 pub name-part : (t : Term) (own : ℕ) → name_of t own ≤ part_of t own + over (name_of t own)
 unfolding name_of part_of is_name is_component over
 name-part (alone p) own = omega arith

@@ -7,7 +7,7 @@ use Rattle.cpp_press_laws.proofs.Short.Size.{size, over, part_of, bare_of, name_
 use Rattle.cpp_press_laws.proofs.Short.Worth.{is_among, has-among, among-has, is_again, full, worth, worths}
 use Rattle.cpp_press_laws.proofs.Short.Spelled.{cost, costs}
 
--- the bytes of the function type in a tree, if it is under these qualifiers and was a component before
+-- the bytes of the function type in a tree, if the function type is under these qualifiers and was a component before
 unfoldable again : Qualifiers → (compared : Bool) → (before : List Component) → (encoding : ℕ) → Term → ℕ
 again q b before n (qualified p f) = cond (b && (same_qualifiers q p && (is_function_type f && is_among n f before))) (size f) 0
 again q b before n _ = 0
@@ -189,7 +189,8 @@ seven-most false true false true k some is = omega arith
 seven-most false false true true k some is = omega arith
 seven-most false false false true k some is = absurd (false≢true some)
 
--- a component costs at most what it is worth, and the bytes of the function type in it if these are spelled out again
+-- a component costs at most what it is worth, plus the bytes of the function type in it if that type is spelled out
+-- again
 cost-worth : (b : Bool) (before : List Component) (n : ℕ) (t : Term)
     → cost (record { component = record { tree = t; encoding = n }; was_compared = b }) ≤ worth before n t + seven (λ q. again q b before n t)
 unfolding cost worth is_again full again name_of is_name size bare_of is_function_type over

@@ -9,7 +9,8 @@ use Rattle.cpp_press_laws.proofs.Short.Size.{part_of, front_of, bare_of, name_of
 
 -- ## What components take
 
--- the bytes that a component costs beyond those of a reference: of its spelling, if it was compared, otherwise of its name
+-- the bytes that a component costs beyond those of a reference: those of its spelling if it was compared, and otherwise
+-- those of its name
 unfoldable pub cost : Marked → ℕ
 cost c = over (cond c.was_compared (size c.component.tree) (name_of c.component.tree (size c.component.tree)))
 
@@ -210,7 +211,7 @@ WayShort way.as_elements t w = Short (size t) w.as_elements
 abbrev pub AllShort : (t : Term) → Ways → Type 0
 AllShort t w = (each : Way) → WayShort each t w
 
--- a tree that has no way
+-- a tree with no way of being spelled
 none-all : (t : Term) → AllShort t no_ways
 unfolding no_ways
 none-all t way.as_name = λ letters. nothing-short _

@@ -185,7 +185,7 @@ held-signed (signed n) = omega arith
 held-signed nothing_there = omega arith
 held-signed _ = omega arith
 
--- what is paid for a part that is a type pays for it as the value of the whole
+-- what is paid for a part that is a type also pays for the type as the value of the whole
 pub handed : (around : Around) (v : Value) (s old : State) (b : ℕ) → IsKnown type around v s → AllSmall s.candidates
     → wealth s + typed v ≤ wealth old + 8 * b → Gains type 0 around v old s b
 unfolding need loan returned IsKept

@@ -1,6 +1,6 @@
 -- What components are worth: the bytes that each takes where it is spelled out, beyond those of a reference. A function
--- type is worth all of its bytes, since it is spelled out again under each set of qualifiers. Right under qualifiers, a
--- function type that was a component before is worth nothing.
+-- type is worth all of its bytes, since it is spelled out again under each set of qualifiers. A function type directly
+-- under qualifiers is worth nothing if it was a component before.
 use Rattle.cpp_press_laws.proofs.Basics.{◌≡◌, ℕ, ◌+◌, ◌≤◌, ◌⊎◌, inl, inr, length, List, [], ◌∷◌, ◌++◌, Bool, true, false, refl, ap, sym, ◌∙◌, arith, append_assoc, append-nil, cond, ◌&&◌, ◌||◌, Term, qualified, is_function_type, either_cond, Component, is_same, has_letters}
 use Rattle.cpp_press_laws.proofs.Components.Parts.{Has}
 use Rattle.cpp_press_laws.proofs.Short.Size.{size, over, over-most}

@@ -1,4 +1,4 @@
--- Without leading zeros, the digits from the place on are those of the whole.
+-- The digits from the place on are equal to all the digits, up to leading zeros.
 use Rattle.cpp_direct.proofs.ForAnswers.{◌≡◌, ◌≤◌, ◌-◌, length, drop}
 use Rattle.cpp_grammar.specs.Values as values
 use Rattle.cpp_direct.proofs.lists.normal.Given as goal

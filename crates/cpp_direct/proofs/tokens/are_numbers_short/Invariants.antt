@@ -1,4 +1,4 @@
--- If the rest of the symbol has short numbers, together with the digits right before it, so has the whole.
+-- If the rest of the symbol, with the digits right before it, has only short numbers, so has the whole symbol.
 use Rattle.cpp_direct.proofs.ForAnswers.{◌≡◌, ◌≤◌, ◌-◌, length, drop, true, short_numbers}
 use Rattle.cpp_direct.proofs.tokens.are_numbers_short.Given as goal
 

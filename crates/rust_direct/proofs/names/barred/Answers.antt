@@ -2,7 +2,7 @@
 use Rattle.rust_direct.proofs.Basics.{◌≡◌, ◌≤◌, ℕ, ◌<◌, Bool, true, false, map, cond, get_or, refl, sym, ap, ◌∙◌, arith, subst, get_or-map-range_with_len, range_with_len, is_name_byte, Rust, BARRED}
 use Rattle.rust_direct.proofs.names.barred.Goals as goal
 
--- what is in the table for a byte that may, or may not, be in a name
+-- the table's entry for a byte, by whether the byte may be in a name
 unfoldable entry : Bool → ℕ
 entry b = cond b 0 1
 

@@ -2,7 +2,7 @@
 use Rattle.rust_direct.proofs.Basics.{◌≡◌, ℕ, ◌<◌, Bool, true, false, map, cond, get_or, refl, ap, ◌∙◌, arith, not, ◌==◌, get_or-map-range_with_len, range_with_len, goes_on, LENGTH_BYTES}
 use Rattle.rust_direct.proofs.names.goes_on.Goals as goal
 
--- what is in the table for a byte that passes, or doesn't
+-- the table's entry for a byte, by whether the byte passes
 unfoldable entry : Bool → ℕ
 entry b = cond b 1 0
 

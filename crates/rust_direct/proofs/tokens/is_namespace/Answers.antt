@@ -3,7 +3,7 @@ use Rattle.rust_direct.proofs.Basics.{◌≡◌, ℕ, ◌<◌, Bool, true, false
 use Rattle.rust_direct.specs.declared.tokens.TheConstants.{LETTERS}
 use Rattle.rust_direct.proofs.tokens.is_namespace.Goals as goal
 
--- what is in the table for a byte that passes, or doesn't
+-- the table's entry for a byte, by whether the byte passes
 unfoldable entry : Bool → ℕ
 entry b = cond b 1 0
 

@@ -1,5 +1,5 @@
--- For all names that may be there: the bytes written and what the remaining names show are the whole text; likewise for what was
--- spent and what is left to spend.
+-- Whatever the path's names are: the bytes written and the text of the remaining names are together the whole text; likewise for
+-- what was spent and what is left to spend.
 use Rattle.rust_legacy.proofs.Basics.{◌≡◌, ◌≤◌, ◌-◌, ◌+◌, ◌++◌, ℕ, List, [], text_of, AreNames, front_at, names_parts, Keeps}
 use Rattle.rust_legacy.proofs.Paths.{names_cost}
 use Rattle.rust_legacy.proofs.text.write_names.Given as goal

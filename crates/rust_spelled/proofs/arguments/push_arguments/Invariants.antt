@@ -1,4 +1,4 @@
--- The arguments so far, and those from the next one on, are all arguments of the list.
+-- The arguments so far and those from the next one on are together all arguments of the list.
 use Rattle.std.proofs.Common.{◌≡◌, ◌++◌}
 use Rattle.rust_spelled.specs.Arguments.{arguments_from, arguments_of}
 use Rattle.rust_spelled.proofs.arguments.push_arguments.Given as goal

@@ -1,4 +1,4 @@
--- What was found, and the lists of the remaining paths, are the lists of all paths.
+-- The lists found so far and the lists of the remaining paths are together the lists of all paths.
 use Rattle.std.proofs.Common.{◌≡◌, ◌++◌, length, drop, map}
 use Rattle.std.specs.List.{flat_map}
 use Rattle.rust_spelled.specs.Arguments.{arguments_of, generics, items_of, list_of}

@@ -1,4 +1,4 @@
--- The paths so far, and those from the next one on, are all paths of the name.
+-- The paths so far and those from the next one on are together all paths of the name.
 use Rattle.std.proofs.Common.{◌≡◌, ◌<◌, ◌++◌, length}
 use Rattle.std.specs.List.{All}
 use Rattle.rust_spelled.specs.Paths.{paths_from, paths_of}

@@ -2,7 +2,7 @@ use Rattle.sym_calls.proofs.Basics.{sym, ◌∙◌, true, false, symbol_of}
 use Rattle.sym_calls.proofs.Ending.{abi-counted, counting-ends, rest-of, wide-counted}
 use Rattle.sym_calls.proofs.counting.counts_of.Goals as goal
 
--- by the wide grammar
+-- the wide grammar is requested
 pub returns-then-asked : goal.returns-then-asked
 returns-then-asked c =
     counting-ends _ c.in-Some.asked c.in-Ok.kind c.args.name.now true c.args.counts.now c.count_in.new.counts _ (sym c.asked_of.ensures ∙ c.in-Some.is) c.if-asked.true (sym c.named.ensures.is ∙ c.in-Ok.is)

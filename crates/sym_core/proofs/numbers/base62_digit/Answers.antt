@@ -1,4 +1,4 @@
--- The table is held against the definitions at each of the 256 bytes, by computing.
+-- The table is compared with the definitions at each of the 256 bytes, by computing.
 use Rattle.sym_core.proofs.Basics.{◌≡◌, ℕ, ◌<◌, Bool, true, false, map, cond, get_or, nat_lt, refl, sym, ap, ◌∙◌, arith, nat_tests, get_or-map-range_with_len, range_with_len, is_digit_of, digit_value, Base62}
 use Rattle.sym_core.specs.declared.numbers.TheConstants.{BASE62_DIGITS}
 use Rattle.sym_core.proofs.numbers.base62_digit.Goals as goal

@@ -1,4 +1,4 @@
--- The table is held against the definition at each of the 256 bytes, by computing.
+-- The table is compared with the definition at each of the 256 bytes, by computing.
 use Rattle.sym_core.proofs.Basics.{◌≡◌, ℕ, ◌==◌, ◌<◌, Bool, true, false, map, cond, get_or, refl, sym, ap, ◌∙◌, arith, get_or-map-range_with_len, range_with_len, is_name_byte, Rust}
 use Rattle.sym_core.specs.declared.tokens.TheConstants.{RUST_NAME_BYTES}
 use Rattle.sym_core.proofs.tokens.is_name_byte.Goals as goal

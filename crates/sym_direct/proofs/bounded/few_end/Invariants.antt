@@ -1,4 +1,4 @@
--- The bytes from the first place to the one that is reached are neither marks nor 0.
+-- The bytes from the first place to the place that is reached are neither marks nor 0.
 use Rattle.std.proofs.Common.{length, ◌-◌}
 use Rattle.sym_direct.proofs.Marking.{IsRun}
 use Rattle.sym_direct.proofs.bounded.few_end.Given as goal

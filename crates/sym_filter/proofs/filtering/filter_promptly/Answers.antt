@@ -28,7 +28,7 @@ loop-count-init g c =
       dots = dots-first words.dots (g.R.PromptSource.reads_left c.args.reader.now) c.left-left.result begins.no_dots c.left-left.ensures c.left-left.type_inv;
     }
 
--- nothing waits but what the words hold
+-- nothing waits except what the words hold
 pub read_beside-requires-clause-may : goal.read_beside-requires-clause-may
 read_beside-requires-clause-may g c =
     let so_far = c.loop-count.invariant in

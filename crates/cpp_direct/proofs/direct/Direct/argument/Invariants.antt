@@ -1,4 +1,4 @@
--- Types may name the same arguments in all open entries as in the entries that are yet to be visited.
+-- The entries that are yet to be visited let types name the same arguments as all open entries do.
 use Rattle.cpp_direct.proofs.ForAnswers.{◌≡◌, reverse, argument_of}
 use Rattle.cpp_direct.proofs.direct.Direct.argument.Given as goal
 

@@ -1,4 +1,4 @@
--- What the pattern makes of this many elements of the pack is written.
+-- The expansion of the pattern for this many elements of the pack is written.
 use Rattle.cpp_direct.proofs.ForAnswers.{List, Detail, Term, AreExpanded, IsPackOf}
 use Rattle.cpp_direct.proofs.direct.Direct.expand_all.Given as goal
 

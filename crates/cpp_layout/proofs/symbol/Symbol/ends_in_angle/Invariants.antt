@@ -1,4 +1,4 @@
--- The name that was reached has the template's last piece, and its node isn't an alias.
+-- The name that was reached has the template's last piece, and the name's node isn't an alias.
 use Rattle.cpp_layout.proofs.Basics.{◌≡◌, ◌<◌, length, false, last_piece, entry_at, is_again, IsAliasBelow, printed_tree}
 use Rattle.cpp_layout.proofs.Naming.{layers}
 use Rattle.cpp_layout.proofs.symbol.Symbol.ends_in_angle.Given as goal

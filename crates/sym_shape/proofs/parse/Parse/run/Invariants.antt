@@ -1,4 +1,4 @@
--- The parse fits the bytes, each step has made at most one row, and the lists hold no less.
+-- The parse fits the bytes, each step has made at most one row, and the lists have no less room than before.
 use Rattle.sym_shape.proofs.Basics.{◌+◌, ◌-◌, ◌*◌, length, IsParsing, MakeRows, KeepsRoom, StaysWithin, room_of}
 use Rattle.sym_shape.proofs.parse.Parse.run.Given as goal
 

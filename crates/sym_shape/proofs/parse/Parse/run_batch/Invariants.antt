@@ -1,4 +1,4 @@
--- The parse fits the bytes up to its place, each step has made at most one row, and the lists hold no less.
+-- The parse fits the bytes up to its place, each step has made at most one row, and the lists have no less room.
 use Rattle.sym_shape.proofs.Basics.{◌+◌, ◌-◌, ◌*◌, ◌≤◌, length, IsParse, to_do, KeepsRoom, StaysWithin, room_of}
 use Rattle.sym_shape.proofs.parse.Parse.run_batch.Given as goal
 

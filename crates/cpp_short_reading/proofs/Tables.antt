@@ -1,10 +1,19 @@
 -- What holds of the tables of both grammars.
-use Rattle.cpp_direct.proofs.Basics.{◌≡◌, ℕ, ◌<◌, List, [], ◌∷◌, slice_get, Bool, true, false, not, Option, Some, None, refl, sym, ap, ◌∙◌, Ok, if◌then◌else◌, Token, abi, among, ARGUMENT, ARGUMENT_LIST, ARGUMENTS_ALONE, ARGUMENTS_FIRST, branch, choose, empty, FIRST_OF_LAMBDA, fixed, in_ranges, is_chain, is_in, IsToken, IsTree, ITEM, Kind, kinds, may_be_empty, MAYBE_ARGUMENTS, NEST_MORE_OR_END, NEST_REST, NEST_REST_ALONE, NEST_TAIL, number_of, pick, Production, Rule, rule_of, rule_taken, spell, StandsFor, Sym, SYMBOL, TakesRule, Term, token, Tree, unfold_cpp, wide, wide_alternatives, wide_choose, wide_kept, same_choice, each_below, kept, mangled_by, table_by, NameClass}
-use Rattle.cpp_grammar.proofs.Arguments.{Replaces, abi_argument, wide_argument, abi_first, wide_first}
+use Rattle.cpp_grammar.proofs.Basics.{◌≡◌, ℕ, ◌<◌, List, [], ◌∷◌, slice_get, Bool, true, false, not, Option, Some, None, refl, sym, ap, ◌∙◌, Ok, Token, abi, among, ARGUMENT, ARGUMENT_LIST, ARGUMENTS_ALONE, ARGUMENTS_FIRST, branch, choose, empty, FIRST_OF_LAMBDA, fixed, in_ranges, is_chain, is_in, IsTree, ITEM, kinds, may_be_empty, MAYBE_ARGUMENTS, NEST_MORE_OR_END, NEST_REST, NEST_REST_ALONE, number_of, pick, Rule, rule_of, rule_taken, spell, Sym, SYMBOL, TakesRule, Term, token, Tree, wide, wide_alternatives, wide_choose}
+use Rattle.std.proofs.Common.{if◌then◌else◌}
+use Rattle.sym_core.specs.declared.NameClass.{NameClass}
+use Rattle.sym_shape.specs.Table.{IsToken}
+use Rattle.sym_demangle.specs.Mangled.{StandsFor}
+use Rattle.cpp_grammar.specs.KindNumbers.{NEST_TAIL}
+use Rattle.cpp_grammar.specs.declared.kind.Kind.{Kind}
+use Rattle.cpp_grammar.specs.declared.production.Production.{Production}
+use Rattle.cpp_short_reading.specs.Grammars.{mangled_by, table_by}
+use Rattle.cpp_short_reading.specs.Reading.{unfold_by, unfold_own}
+use Rattle.cpp_short_reading.proofs.Arguments.{Replaces, abi_argument, wide_argument, abi_first, wide_first}
 use Rattle.cpp_grammar.proofs.Alone.{arguments_maybe, rest_any, list_first}
 use Rattle.cpp_grammar.proofs.Choosing.{rule_at_kind, empty_at_kind, wide_rule_at, wide_empty_at}
-use Rattle.cpp_grammar.proofs.Growing.{below}
-use Rattle.cpp_grammar.proofs.Staying.{meaning_stays}
+use Rattle.cpp_grammar.proofs.Growing.{below, wide_kept, same_choice, each_below, kept}
+use Rattle.cpp_short_reading.proofs.Staying.{meaning-stays}
 
 -- ## Choices
 
@@ -52,7 +61,7 @@ unfolding rule_taken
 rule-same None big rule same is = let clash : None ≡ Some rule = is in absurd cc
 rule-same (Some p) big rule same is = ap rule_taken (kept (Some p) big p same refl) ∙ is
 
--- a kind with more alternatives, in whichever order, has all trees of a kind that has fewer
+-- a kind that has all alternatives of another kind, in whichever order, has all trees of that kind
 grows : (j k : ℕ) (small big : Kind) → slice_get kinds j ≡ Some small → slice_get kinds k ≡ Some big
     → each_below 256 (λ b. same_choice (wide_choose small b) (wide_choose big b)) ≡ true → may_be_empty small ≡ may_be_empty big → (t : Tree)
     → IsTree wide (Sym.Kind j) t → IsTree wide (Sym.Kind k) t
@@ -107,6 +116,7 @@ first-by false t is = abi_first t is
 
 -- the symbol denotes what its whole tree says
 pub stands-by : (is_wide : Bool) (s : List ℕ) (shape : Tree) (t : Term) → IsTree (table_by is_wide) (Sym.Kind SYMBOL) shape → spell shape ≡ s
-    → unfold_cpp shape ≡ Ok t → StandsFor (mangled_by is_wide) s (Ok t)
-stands-by true s shape t shaped spelled is = (shape, shaped, spelled, sym (meaning_stays shape t shaped is))
-stands-by false s shape t shaped spelled is = (shape, shaped, spelled, sym is)
+    → unfold_by is_wide shape ≡ Ok t → StandsFor (mangled_by is_wide) s (Ok t)
+unfolding unfold_own
+stands-by true s shape t shaped spelled is = (shape, shaped, spelled, sym (meaning-stays true shape t is))
+stands-by false s shape t shaped spelled is = (shape, shaped, spelled, sym (meaning-stays false shape t is))
